@@ -1,0 +1,12 @@
+pub mod Lists
+pub mod Sizes
+pub mod Words
+pub mod Machines
+pub mod Files
+pub mod Reading
+pub mod Needed
+pub mod Answers
+pub mod Operations
+pub mod Line
+pub mod Promises
+pub mod Starred

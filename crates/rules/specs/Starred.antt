@@ -1,0 +1,178 @@
+-- Document 01, "Worked pieces": the cases with a star, as theorems of the definitions, in one table under one statement. The
+-- rows after `ours` are not starred there; they are this project's own.
+use Prim.Native.Nat.{ℕ}
+use mathlib.Core.Path.{_≡_, refl}
+use mathlib.Core.List.{List, [], _∷_, _++_, map, flatMap}
+use lib.ListN.{length, replicate}
+use Rattle.rules.specs.declared.Checked.the-variants.{Accepted, Refused as CheckRefused}
+use Rattle.rules.specs.declared.Built.{Built}
+use Rattle.rules.specs.declared.Built.the-variants.{Written, Refused as BuildRefused}
+use Rattle.rules.specs.declared.Ran.the-variants.{Passes, Fails, Refused as RunRefused}
+use Rattle.rules.specs.declared.Compared.{Compared}
+use Rattle.rules.specs.declared.Compared.the-variants.{Equal, Differs}
+use Rattle.rules.specs.declared.Judged.{Judged}
+use Rattle.rules.specs.declared.Judged.the-variants.{Agrees, Deviates}
+use Rattle.rules.specs.declared.Refusal.the-variants.{NoEmptyWord, Unreached, NoSeparator, NotSeparated, Missing, NoRoom}
+use Rattle.rules.specs.Lists.{sum}
+use Rattle.rules.specs.Words.{Word, wordsOf, shortlex}
+use Rattle.rules.specs.Machines.{answer}
+use Rattle.rules.specs.Files.{DossierData, UnitData, SheetRecord, golden, unit, countBytes, outputBytes, entryBytes, tableBytes, wordBytes, wordsBytes, frontBytes, dossierBytes, sheetBytes}
+use Rattle.rules.specs.Reading.{byte, judged, count, many, word, words, output, entry, table, sheetRecord, ending, dossier, unitTable, sheet}
+use Rattle.rules.specs.Needed.{middles, needed, neededWords, unreached, pairs, unseparated, missing, distinct, maximalOf, builtTests}
+use Rattle.rules.specs.Answers.{goldenState, middleOf}
+use Rattle.rules.specs.Operations.{Outcome, fine, refuse, answered, readFile, readSheet, readDossier, readUnit, sound, enough, check, checkAnswer, build, buildAnswer, buildOutput, run, runAnswer, telling, compare, compareAnswer, compareOutput, repeated, foreign, absent, pair, judge, judgeAnswer, Part, partOf, testPart, judgedPart}
+use Rattle.rules.specs.Line.{text, decimal, runLine}
+
+-- The bytes of sections: numbers and table of G, its cover, its separating words.
+abbrev numbersG : ℕ → List ℕ
+numbersG m = 3 ∷ 0 ∷ 2 ∷ 2 ∷ m ∷ []
+
+abbrev tableG : List ℕ
+tableG = 4 ∷ 0 ∷ 0 ∷ 0 ∷ 1 ∷ 0 ∷ 0 ∷ 1 ∷ 1 ∷ 0 ∷ []
+
+-- empty, 1
+abbrev coverG : List ℕ
+coverG = 2 ∷ 0 ∷ 0 ∷ 1 ∷ 1 ∷ []
+
+-- 0
+abbrev separatingG : List ℕ
+separatingG = 1 ∷ 0 ∷ 1 ∷ 0 ∷ []
+
+-- no words; the empty word; the word 1
+abbrev noWords : List ℕ
+noWords = 0 ∷ 0 ∷ []
+
+abbrev onlyEmpty : List ℕ
+onlyEmpty = 1 ∷ 0 ∷ 0 ∷ []
+
+abbrev only1 : List ℕ
+only1 = 1 ∷ 0 ∷ 1 ∷ 1 ∷ []
+
+-- 00, 100, 110
+abbrev tests2 : List ℕ
+tests2 = 3 ∷ 0 ∷ 2 ∷ 0 ∷ 0 ∷ 3 ∷ 1 ∷ 0 ∷ 0 ∷ 3 ∷ 1 ∷ 1 ∷ 0 ∷ []
+
+-- 000, 010, 1000, 1010, 1100, 1110
+abbrev tests3 : List ℕ
+tests3 =
+    6 ∷ 0 ∷ 3 ∷ 0 ∷ 0 ∷ 0 ∷ 3 ∷ 0 ∷ 1 ∷ 0 ∷ 4 ∷ 1 ∷ 0 ∷ 0 ∷ 0 ∷ 4 ∷ 1 ∷ 0 ∷ 1 ∷ 0 ∷ 4 ∷ 1 ∷ 1 ∷ 0 ∷ 0 ∷ 4 ∷ 1 ∷ 1 ∷ 1 ∷ 0 ∷ []
+
+-- a dossier of G: the byte for m, cover, separating and tests
+abbrev dossierG : ℕ → List ℕ → List ℕ → List ℕ → List ℕ
+dossierG m cover separating tests = numbersG m ++ tableG ++ cover ++ separating ++ tests
+
+-- the 37 bytes
+abbrev built2 : List ℕ
+built2 =
+    0x03 ∷ 0x00 ∷ 0x02 ∷ 0x02 ∷ 0x02 ∷ 0x04 ∷ 0x00 ∷ 0x00 ∷ 0x00 ∷ 0x01 ∷ 0x00 ∷ 0x00 ∷ 0x01 ∷ 0x01 ∷ 0x00 ∷ 0x02 ∷ 0x00 ∷ 0x00 ∷ 0x01 ∷ 0x01
+    ∷ 0x01 ∷ 0x00 ∷ 0x01 ∷ 0x00 ∷ 0x03 ∷ 0x00 ∷ 0x02 ∷ 0x00 ∷ 0x00 ∷ 0x03 ∷ 0x01 ∷ 0x00 ∷ 0x00 ∷ 0x03 ∷ 0x01 ∷ 0x01 ∷ 0x00 ∷ []
+
+-- the 54 bytes
+abbrev built3 : List ℕ
+built3 = dossierG 3 coverG separatingG tests3
+
+-- V: two numbers, six entries
+abbrev unitV : List ℕ
+unitV = 2 ∷ 0 ∷ 2 ∷ 3 ∷ 6 ∷ 0 ∷ 2 ∷ 0 ∷ 1 ∷ 0 ∷ 0 ∷ 1 ∷ 1 ∷ 0 ∷ 2 ∷ 0 ∷ 2 ∷ 0 ∷ []
+
+-- one state, one input, output 0, cover the empty word
+abbrev dossier1 : ℕ → List ℕ → List ℕ → List ℕ
+dossier1 m separating tests = (3 ∷ 0 ∷ 1 ∷ 1 ∷ m ∷ []) ++ (1 ∷ 0 ∷ 0 ∷ 0 ∷ []) ++ onlyEmpty ++ separating ++ tests
+
+-- a sheet with records for 00, 100 and 110: the answer to 00 is 0 0, the others are given
+abbrev sheet2 : List ℕ → List ℕ → List ℕ
+sheet2 answer100 answer110 =
+    (3 ∷ 0 ∷ 2 ∷ 0 ∷ 0 ∷ 0 ∷ 0 ∷ []) ++ (3 ∷ 1 ∷ 0 ∷ 0 ∷ []) ++ answer100 ++ (3 ∷ 1 ∷ 1 ∷ 0 ∷ []) ++ answer110
+
+-- an output of `n` bytes, all 170
+abbrev blank : ℕ → List ℕ
+blank n = replicate n 170
+
+-- what build answers and leaves in an output
+abbrev Builds : List ℕ → List ℕ → Built → List ℕ → Type 0
+Builds bytes out r left = (buildAnswer bytes out ≡ r) × (buildOutput bytes out ≡ left)
+
+-- what compare answers and leaves in an output
+abbrev Compares : List ℕ → List ℕ → List ℕ → Compared → List ℕ → Type 0
+Compares bytes other out r left = (compareAnswer bytes other out ≡ r) × (compareOutput bytes other out ≡ left)
+
+-- what the judge answers, where the part that it hands back stands, and the part
+abbrev Judges : List ℕ → List ℕ → Judged → ℕ → List ℕ → Type 0
+Judges bytes other r place part =
+    (judgeAnswer bytes other ≡ r) × (judgedPart bytes other .place ≡ place) × (partOf bytes (judgedPart bytes other) ≡ part)
+
+-- what a dossier that reads well has
+abbrev ofDossier : {A : Type 0} → List ℕ → (DossierData → A) → Outcome A
+ofDossier bytes f = answered (readDossier bytes) (λ d. fine (f d)) refuse
+
+abbrev ofUnit : {A : Type 0} → List ℕ → (UnitData → A) → Outcome A
+ofUnit bytes f = answered (readUnit bytes) (λ u. fine (f u)) refuse
+
+-- the output totals of a sheet over two inputs
+abbrev totals : List ℕ → Outcome (List ℕ)
+totals bytes = answered (readSheet 2 bytes) (λ rs. fine (map (λ r. sum (r .recorded)) rs)) refuse
+
+-- the words 0, 00, 10, 100, 110
+abbrev needed2 : List Word
+needed2 = (0 ∷ []) ∷ (0 ∷ 0 ∷ []) ∷ (1 ∷ 0 ∷ []) ∷ (1 ∷ 0 ∷ 0 ∷ []) ∷ (1 ∷ 1 ∷ 0 ∷ []) ∷ []
+
+-- the answers to 00, 100 and 110
+abbrev answers2 : List Word
+answers2 = (0 ∷ 0 ∷ []) ∷ (0 ∷ 1 ∷ 0 ∷ []) ∷ (0 ∷ 0 ∷ 1 ∷ []) ∷ []
+
+pub record Starred : Type 0 where
+  needed-2 : ofDossier built2 (λ d. distinct (neededWords d)) ≡ fine needed2
+  build-2 : Builds (dossierG 2 coverG separatingG noWords) (blank 39) (Written 37) (built2 ++ blank 2)
+  build-2-fits : Builds (dossierG 2 coverG separatingG noWords) (blank 37) (Written 37) built2
+  build-2-no-room : Builds (dossierG 2 coverG separatingG noWords) (blank 36) (BuildRefused (NoRoom 37)) (blank 36)
+  build-3 : Builds (dossierG 3 coverG separatingG tests2) (blank 54) (Written 54) built3
+  missing-3 : checkAnswer (dossierG 3 coverG separatingG tests2) ≡ CheckRefused (Missing 0 (middleOf (0 ∷ 0 ∷ [])) 0)
+  no-empty-word : checkAnswer (dossierG 2 only1 separatingG tests2) ≡ CheckRefused NoEmptyWord
+  unreached-1 : checkAnswer (dossierG 2 onlyEmpty separatingG tests2) ≡ CheckRefused (Unreached (goldenState 1))
+  no-separator : checkAnswer (dossierG 2 coverG noWords tests2) ≡ CheckRefused NoSeparator
+  not-separated : checkAnswer (dossierG 2 coverG only1 tests2) ≡ CheckRefused (NotSeparated (goldenState 0) (goldenState 1))
+  golden-answers-2 : ofDossier built2 (λ d. map (answer (golden d)) (d .tests)) ≡ fine answers2
+  unit-answers-2 : ofDossier built2 (λ d. ofUnit unitV (λ u. map (answer (unit u)) (d .tests))) ≡ fine (fine answers2)
+  run-3 : runAnswer built3 unitV ≡ Fails 1 2
+  compare-3 : Compares built3 unitV (blank 5) (Differs 3) (0 ∷ 1 ∷ 0 ∷ blank 2)
+  one-state-1 : Builds (dossier1 1 onlyEmpty noWords) (blank 20) (Written 19) (dossier1 1 onlyEmpty (1 ∷ 0 ∷ 1 ∷ 0 ∷ []) ++ blank 1)
+  one-state-2 : Builds (dossier1 2 onlyEmpty noWords) (blank 20) (Written 20) (dossier1 2 onlyEmpty (1 ∷ 0 ∷ 2 ∷ 0 ∷ 0 ∷ []))
+  exchanged-totals : totals (sheet2 (0 ∷ 0 ∷ 1 ∷ []) (0 ∷ 1 ∷ 0 ∷ [])) ≡ totals (sheet2 (0 ∷ 1 ∷ 0 ∷ []) (0 ∷ 0 ∷ 1 ∷ []))
+  exchanged : Judges built2 (sheet2 (0 ∷ 0 ∷ 1 ∷ []) (0 ∷ 1 ∷ 0 ∷ [])) (Deviates 1 1) 30 (1 ∷ 0 ∷ 0 ∷ [])
+  -- ours
+  accepted-2 : checkAnswer built2 ≡ Accepted
+  by-inputs : Builds (dossierG 0 coverG (1 ∷ 0 ∷ 2 ∷ 0 ∷ 1 ∷ []) noWords) (blank 48) (Written 48) (dossierG 0 coverG (1 ∷ 0 ∷ 2 ∷ 0 ∷ 1 ∷ []) (5 ∷ 0 ∷ 3 ∷ 0 ∷ 0 ∷ 1 ∷ 2 ∷ 0 ∷ 1 ∷ 4 ∷ 1 ∷ 0 ∷ 0 ∷ 1 ∷ 3 ∷ 1 ∷ 0 ∷ 1 ∷ 4 ∷ 1 ∷ 1 ∷ 0 ∷ 1 ∷ []))
+  one-state-no-separator : checkAnswer (dossier1 1 noWords noWords) ≡ CheckRefused NoSeparator
+  shorter-middle-first : checkAnswer (dossierG 3 coverG separatingG (1 ∷ 0 ∷ 2 ∷ 0 ∷ 0 ∷ [])) ≡ CheckRefused (Missing 0 (middleOf (1 ∷ [])) 0)
+  inner-step : Judges built2 (sheet2 (0 ∷ 0 ∷ 0 ∷ []) (0 ∷ 0 ∷ 1 ∷ [])) (Deviates 1 1) 30 (1 ∷ 0 ∷ 0 ∷ [])
+  line-3 : runLine built3 unitV ≡ text "FAILS 1 2 010 1 0\n"
+
+pub starred : Starred
+unfolding flatMap wordsOf shortlex countBytes outputBytes entryBytes tableBytes wordBytes wordsBytes frontBytes dossierBytes byte judged count many word words output entry table sheetRecord ending dossier unitTable sheet middles needed unreached pairs unseparated missing maximalOf builtTests readFile sound enough check build run telling compare repeated foreign absent pair judge testPart decimal runLine
+starred =
+    record {
+      needed-2 = refl;
+      build-2 = (refl, refl);
+      build-2-fits = (refl, refl);
+      build-2-no-room = (refl, refl);
+      build-3 = (refl, refl);
+      missing-3 = refl;
+      no-empty-word = refl;
+      unreached-1 = refl;
+      no-separator = refl;
+      not-separated = refl;
+      golden-answers-2 = refl;
+      unit-answers-2 = refl;
+      run-3 = refl;
+      compare-3 = (refl, refl);
+      one-state-1 = (refl, refl);
+      one-state-2 = (refl, refl);
+      exchanged-totals = refl;
+      exchanged = (refl, refl, refl);
+      accepted-2 = refl;
+      by-inputs = (refl, refl);
+      one-state-no-separator = refl;
+      shorter-middle-first = refl;
+      inner-step = (refl, refl, refl);
+      line-3 = refl;
+    }

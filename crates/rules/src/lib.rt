@@ -1,0 +1,110 @@
+// The kinds of number, refusal and answer of document 01. What each one means stands in specs/.
+
+// The four sorts of number. Each is its own type and its field is private, so that no text outside this crate can turn
+// one sort into another.
+pub struct GoldenState(u8);
+
+pub struct UnitState(u8);
+
+pub struct Input(u8);
+
+pub struct Output(u8);
+
+// Sizes.
+pub const MOST_INPUTS: u8 = 16;
+
+pub const MOST_STATES: u8 = 64;
+
+pub const MOST_ADDED_STATES: u8 = 4;
+
+pub const MOST_SET_WORD: u8 = 97;
+
+pub const MOST_TEST_WORD: u8 = 200;
+
+pub const MOST_DOSSIER_BYTES: usize = 65535;
+
+pub const MOST_UNIT_BYTES: usize = 65535;
+
+pub const MOST_SHEET_BYTES: usize = 131070;
+
+// The file that a refusal concerns.
+pub enum File {
+    Dossier,
+    Unit,
+    Sheet,
+    Output,
+}
+
+// The refusals 1 to 6: what keeps a file from being well formed.
+pub enum Fault {
+    TooLong,
+    CutShort,
+    BadNumbers,
+    BadTable,
+    BadWord,
+    Trailing,
+}
+
+// A middle has at most five inputs: `len` of them, from `a` on. Those beyond are 0.
+pub struct Middle {
+    pub len: u8,
+    pub a: Input,
+    pub b: Input,
+    pub c: Input,
+    pub d: Input,
+    pub e: Input,
+}
+
+// The refusals 1 to 17. Those of 1 to 6 are one case: the fault, the file and the byte place.
+pub enum Refusal {
+    Malformed(Fault, File, usize),
+    NoEmptyWord,
+    Unreached(GoldenState),
+    NoSeparator,
+    NotSeparated(GoldenState, GoldenState),
+    Missing(usize, Middle, usize),
+    Repeated(usize),
+    Foreign(usize),
+    Absent(usize),
+    OtherInputs,
+    TooManyStates,
+    NoRoom(usize),
+}
+
+pub enum Checked {
+    Accepted,
+    Refused(Refusal),
+}
+
+// The length of what was written.
+pub enum Built {
+    Written(usize),
+    Refused(Refusal),
+}
+
+// The count of tests; or the place of the test that fails and its first differing step.
+pub enum Ran {
+    Passes(usize),
+    Fails(usize, usize),
+    Refused(Refusal),
+}
+
+// The length of the telling word.
+pub enum Compared {
+    Equal,
+    Differs(usize),
+    Refused(Refusal),
+}
+
+// The place of the test that deviates and its first differing step.
+pub enum Judged {
+    Agrees,
+    Deviates(usize, usize),
+    Refused(Refusal),
+}
+
+// The count of tests and the sum of their lengths.
+pub enum Costed {
+    Cost(usize, usize),
+    Refused(Refusal),
+}

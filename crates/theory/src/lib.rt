@@ -1,0 +1,1 @@
+// What is true of the rules. All of it stands in specs/.
