@@ -3,12 +3,12 @@ use Prim.Native.Nat.{ℕ, suc, _-_, _≤_, _<_}
 use mathlib.Core.Path.{_≡_}
 use mathlib.Core.Logic.{_≢_}
 use mathlib.Core.List.{List, [], _∷_, _++_, map, flatMap}
-use mathlib.Core.Bool.{Bool, cond, not}
+use mathlib.Core.Bool.{cond, not}
 use mathlib.Core.Option.{Option}
 use lib.Dec.{eqb}
 use lib.ListN.{length}
 use Rattle.rules.specs.Lists.{_∈_, numbers, numbersFrom, placed, any, all, first, keep}
-use Rattle.rules.specs.Words.{Word, Valid, Begins, same, begins, beginsProperly, byInputs, isIn, wordsOf, shortlex}
+use Rattle.rules.specs.Words.{Word, Valid, Begins, same, begins, beginsProperly, byInputs, shortlex}
 use Rattle.rules.specs.Machines.{after, answerFrom}
 use Rattle.rules.specs.Files.{DossierData, golden, bound}
 

@@ -28,7 +28,7 @@ use Rattle.rules.specs.Words.{Word, same, isIn, shortlex}
 use Rattle.rules.specs.Machines.{Machine, answer}
 use Rattle.rules.specs.Files.{DossierData, UnitData, SheetRecord, golden, unit, bound, withTests, wordBytes, frontBytes, dossierBytes}
 use Rattle.rules.specs.Reading.{Got, got, faulty, Reader, dossier, unitTable, sheet}
-use Rattle.rules.specs.Needed.{Need, unreached, unseparated, missing, builtTests}
+use Rattle.rules.specs.Needed.{unreached, unseparated, missing, builtTests}
 use Rattle.rules.specs.Answers.{goldenState, middleOf}
 
 -- a result, or the first refusal that was met

@@ -1,7 +1,7 @@
 -- Document 01, "Sizes".
 use Prim.Native.Nat.{ℕ, zero, suc, _+_}
-use mathlib.Core.Bool.{Bool, _&&_, _||_}
-use lib.Dec.{leb, eqb}
+use mathlib.Core.Bool.{Bool, _&&_}
+use lib.Dec.{leb}
 
 abbrev pub mostInputs : ℕ
 mostInputs = 16

@@ -1,26 +1,26 @@
--- Document 01, "Worked pieces": the cases with a star, as theorems of the definitions, in one table under one statement. The
--- rows after `ours` are not starred there; they are this project's own.
+-- Document 01, "Worked pieces": the cases with a star, as theorems of the definitions, in one table under one statement. Rows
+-- of our own follow them.
 use Prim.Native.Nat.{ℕ}
 use mathlib.Core.Path.{_≡_, refl}
 use mathlib.Core.List.{List, [], _∷_, _++_, map, flatMap}
-use lib.ListN.{length, replicate}
+use lib.ListN.{replicate}
 use Rattle.rules.specs.declared.Checked.the-variants.{Accepted, Refused as CheckRefused}
 use Rattle.rules.specs.declared.Built.{Built}
 use Rattle.rules.specs.declared.Built.the-variants.{Written, Refused as BuildRefused}
-use Rattle.rules.specs.declared.Ran.the-variants.{Passes, Fails, Refused as RunRefused}
+use Rattle.rules.specs.declared.Ran.the-variants.{Fails}
 use Rattle.rules.specs.declared.Compared.{Compared}
-use Rattle.rules.specs.declared.Compared.the-variants.{Equal, Differs}
+use Rattle.rules.specs.declared.Compared.the-variants.{Differs}
 use Rattle.rules.specs.declared.Judged.{Judged}
-use Rattle.rules.specs.declared.Judged.the-variants.{Agrees, Deviates}
+use Rattle.rules.specs.declared.Judged.the-variants.{Deviates}
 use Rattle.rules.specs.declared.Refusal.the-variants.{NoEmptyWord, Unreached, NoSeparator, NotSeparated, Missing, NoRoom}
 use Rattle.rules.specs.Lists.{sum}
 use Rattle.rules.specs.Words.{Word, wordsOf, shortlex}
 use Rattle.rules.specs.Machines.{answer}
-use Rattle.rules.specs.Files.{DossierData, UnitData, SheetRecord, golden, unit, countBytes, outputBytes, entryBytes, tableBytes, wordBytes, wordsBytes, frontBytes, dossierBytes, sheetBytes}
+use Rattle.rules.specs.Files.{DossierData, UnitData, golden, unit, countBytes, outputBytes, entryBytes, tableBytes, wordBytes, wordsBytes, frontBytes, dossierBytes}
 use Rattle.rules.specs.Reading.{byte, judged, count, many, word, words, output, entry, table, sheetRecord, ending, dossier, unitTable, sheet}
 use Rattle.rules.specs.Needed.{middles, needed, neededWords, unreached, pairs, unseparated, missing, distinct, maximalOf, builtTests}
 use Rattle.rules.specs.Answers.{goldenState, middleOf}
-use Rattle.rules.specs.Operations.{Outcome, fine, refuse, answered, readFile, readSheet, readDossier, readUnit, sound, enough, check, checkAnswer, build, buildAnswer, buildOutput, run, runAnswer, telling, compare, compareAnswer, compareOutput, repeated, foreign, absent, pair, judge, judgeAnswer, Part, partOf, testPart, judgedPart}
+use Rattle.rules.specs.Operations.{Outcome, fine, refuse, answered, readFile, readSheet, readDossier, readUnit, sound, enough, check, checkAnswer, build, buildAnswer, buildOutput, run, runAnswer, telling, compare, compareAnswer, compareOutput, repeated, foreign, absent, pair, judge, judgeAnswer, partOf, testPart, judgedPart}
 use Rattle.rules.specs.Line.{text, decimal, runLine}
 
 -- The bytes of sections: numbers and table of G, its cover, its separating words.
@@ -38,7 +38,7 @@ coverG = 2 ∷ 0 ∷ 0 ∷ 1 ∷ 1 ∷ []
 abbrev separatingG : List ℕ
 separatingG = 1 ∷ 0 ∷ 1 ∷ 0 ∷ []
 
--- no words; the empty word; the word 1
+-- sections of no word and of one word
 abbrev noWords : List ℕ
 noWords = 0 ∷ 0 ∷ []
 
@@ -48,6 +48,12 @@ onlyEmpty = 1 ∷ 0 ∷ 0 ∷ []
 abbrev only1 : List ℕ
 only1 = 1 ∷ 0 ∷ 1 ∷ 1 ∷ []
 
+abbrev only00 : List ℕ
+only00 = 1 ∷ 0 ∷ 2 ∷ 0 ∷ 0 ∷ []
+
+abbrev only01 : List ℕ
+only01 = 1 ∷ 0 ∷ 2 ∷ 0 ∷ 1 ∷ []
+
 -- 00, 100, 110
 abbrev tests2 : List ℕ
 tests2 = 3 ∷ 0 ∷ 2 ∷ 0 ∷ 0 ∷ 3 ∷ 1 ∷ 0 ∷ 0 ∷ 3 ∷ 1 ∷ 1 ∷ 0 ∷ []
@@ -56,6 +62,10 @@ tests2 = 3 ∷ 0 ∷ 2 ∷ 0 ∷ 0 ∷ 3 ∷ 1 ∷ 0 ∷ 0 ∷ 3 ∷ 1 ∷ 1 ∷
 abbrev tests3 : List ℕ
 tests3 =
     6 ∷ 0 ∷ 3 ∷ 0 ∷ 0 ∷ 0 ∷ 3 ∷ 0 ∷ 1 ∷ 0 ∷ 4 ∷ 1 ∷ 0 ∷ 0 ∷ 0 ∷ 4 ∷ 1 ∷ 0 ∷ 1 ∷ 0 ∷ 4 ∷ 1 ∷ 1 ∷ 0 ∷ 0 ∷ 4 ∷ 1 ∷ 1 ∷ 1 ∷ 0 ∷ []
+
+-- 001, 01, 1001, 101, 1101
+abbrev testsByInputs : List ℕ
+testsByInputs = 5 ∷ 0 ∷ 3 ∷ 0 ∷ 0 ∷ 1 ∷ 2 ∷ 0 ∷ 1 ∷ 4 ∷ 1 ∷ 0 ∷ 0 ∷ 1 ∷ 3 ∷ 1 ∷ 0 ∷ 1 ∷ 4 ∷ 1 ∷ 1 ∷ 0 ∷ 1 ∷ []
 
 -- a dossier of G: the byte for m, cover, separating and tests
 abbrev dossierG : ℕ → List ℕ → List ℕ → List ℕ → List ℕ
@@ -121,30 +131,52 @@ abbrev answers2 : List Word
 answers2 = (0 ∷ 0 ∷ []) ∷ (0 ∷ 1 ∷ 0 ∷ []) ∷ (0 ∷ 0 ∷ 1 ∷ []) ∷ []
 
 pub record Starred : Type 0 where
+  -- m = 2: needed 0, 00, 10, 100, 110
   needed-2 : ofDossier built2 (λ d. distinct (neededWords d)) ≡ fine needed2
+  -- built tests 00, 100, 110: the 37 bytes, and later bytes of the output stay
   build-2 : Builds (dossierG 2 coverG separatingG noWords) (blank 39) (Written 37) (built2 ++ blank 2)
+  -- output of 37 bytes fits
   build-2-fits : Builds (dossierG 2 coverG separatingG noWords) (blank 37) (Written 37) built2
+  -- 36 is NO ROOM, needed 37
   build-2-no-room : Builds (dossierG 2 coverG separatingG noWords) (blank 36) (BuildRefused (NoRoom 37)) (blank 36)
+  -- m = 3: built tests 000, 010, 1000, 1010, 1100, 1110; 54 bytes
   build-3 : Builds (dossierG 3 coverG separatingG tests2) (blank 54) (Written 54) built3
+  -- m = 3 with the tests 00, 100, 110: MISSING, cover 0, middle 00, separator 0
   missing-3 : checkAnswer (dossierG 3 coverG separatingG tests2) ≡ CheckRefused (Missing 0 (middleOf (0 ∷ 0 ∷ [])) 0)
+  -- without the empty word in the cover: 7
   no-empty-word : checkAnswer (dossierG 2 only1 separatingG tests2) ≡ CheckRefused NoEmptyWord
+  -- with cover only the empty word: 8, state 1
   unreached-1 : checkAnswer (dossierG 2 onlyEmpty separatingG tests2) ≡ CheckRefused (Unreached (goldenState 1))
+  -- separating emptied: 9
   no-separator : checkAnswer (dossierG 2 coverG noWords tests2) ≡ CheckRefused NoSeparator
+  -- separating only 1: 10, states 0 and 1
   not-separated : checkAnswer (dossierG 2 coverG only1 tests2) ≡ CheckRefused (NotSeparated (goldenState 0) (goldenState 1))
+  -- V answers 00, 100, 110 as G does
   golden-answers-2 : ofDossier built2 (λ d. map (answer (golden d)) (d .tests)) ≡ fine answers2
   unit-answers-2 : ofDossier built2 (λ d. ofUnit unitV (λ u. map (answer (unit u)) (d .tests))) ≡ fine (fine answers2)
+  -- over the built m = 3 dossier: FAILS, place 1, step 2
   run-3 : runAnswer built3 unitV ≡ Fails 1 2
+  -- compare: DIFFERS, 010
   compare-3 : Compares built3 unitV (blank 5) (Differs 3) (0 ∷ 1 ∷ 0 ∷ blank 2)
+  -- one state, one input, output 0: m = 1 builds the single test 0
   one-state-1 : Builds (dossier1 1 onlyEmpty noWords) (blank 20) (Written 19) (dossier1 1 onlyEmpty (1 ∷ 0 ∷ 1 ∷ 0 ∷ []) ++ blank 1)
+  -- m = 2 builds 00
   one-state-2 : Builds (dossier1 2 onlyEmpty noWords) (blank 20) (Written 20) (dossier1 2 onlyEmpty (1 ∷ 0 ∷ 2 ∷ 0 ∷ 0 ∷ []))
+  -- with the last two answers exchanged, every output total is the same
   exchanged-totals : totals (sheet2 (0 ∷ 0 ∷ 1 ∷ []) (0 ∷ 1 ∷ 0 ∷ [])) ≡ totals (sheet2 (0 ∷ 1 ∷ 0 ∷ []) (0 ∷ 0 ∷ 1 ∷ []))
+  -- and the verdict is DEVIATES, place 1, step 1; the test 100 stands at byte 30 of the dossier
   exchanged : Judges built2 (sheet2 (0 ∷ 0 ∷ 1 ∷ []) (0 ∷ 1 ∷ 0 ∷ [])) (Deviates 1 1) 30 (1 ∷ 0 ∷ 0 ∷ [])
-  -- ours
+  -- Ours: the 37 bytes are accepted.
   accepted-2 : checkAnswer built2 ≡ Accepted
-  by-inputs : Builds (dossierG 0 coverG (1 ∷ 0 ∷ 2 ∷ 0 ∷ 1 ∷ []) noWords) (blank 48) (Written 48) (dossierG 0 coverG (1 ∷ 0 ∷ 2 ∷ 0 ∷ 1 ∷ []) (5 ∷ 0 ∷ 3 ∷ 0 ∷ 0 ∷ 1 ∷ 2 ∷ 0 ∷ 1 ∷ 4 ∷ 1 ∷ 0 ∷ 0 ∷ 1 ∷ 3 ∷ 1 ∷ 0 ∷ 1 ∷ 4 ∷ 1 ∷ 1 ∷ 0 ∷ 1 ∷ []))
+  -- the byte 0 for m and separating only 01 build 001, 01, 1001, 101, 1101: 48 bytes, the byte for m still 0
+  by-inputs : Builds (dossierG 0 coverG only01 noWords) (blank 48) (Written 48) (dossierG 0 coverG only01 testsByInputs)
+  -- one state, m = 1, separating emptied: 9
   one-state-no-separator : checkAnswer (dossier1 1 noWords noWords) ≡ CheckRefused NoSeparator
-  shorter-middle-first : checkAnswer (dossierG 3 coverG separatingG (1 ∷ 0 ∷ 2 ∷ 0 ∷ 0 ∷ [])) ≡ CheckRefused (Missing 0 (middleOf (1 ∷ [])) 0)
+  -- m = 3 with the tests only 00: MISSING, cover 0, middle 1, separator 0
+  shorter-middle-first : checkAnswer (dossierG 3 coverG separatingG only00) ≡ CheckRefused (Missing 0 (middleOf (1 ∷ [])) 0)
+  -- the sheet with 100 answered 0 0 0: DEVIATES, place 1, step 1, though the last output is right
   inner-step : Judges built2 (sheet2 (0 ∷ 0 ∷ 0 ∷ []) (0 ∷ 0 ∷ 1 ∷ [])) (Deviates 1 1) 30 (1 ∷ 0 ∷ 0 ∷ [])
+  -- the line that the program prints
   line-3 : runLine built3 unitV ≡ text "FAILS 1 2 010 1 0\n"
 
 pub starred : Starred
