@@ -4,7 +4,7 @@ use Prim.Native.Char.{code}
 use Prim.Native.String.{String}
 use mathlib.Core.List.{List, [], _∷_, _++_, map}
 use mathlib.Core.Bool.{cond}
-use mathlib.Core.Option.{none, some}
+use mathlib.Core.Option.{Option, none, some}
 use lib.Dec.{ltb}
 use lib.ListN.{length, getD}
 use Rattle.rules.specs.declared.File.{File}
@@ -78,12 +78,9 @@ failsLine t i w =
     let step = firstDifference g u in
     line (text "FAILS" ∷ decimal i ∷ decimal step ∷ hex w ∷ decimal (getD g step 0) ∷ decimal (getD u step 0) ∷ [])
 
-abbrev pub verdictLine : Trial → List ℕ
-verdictLine t =
-    elim (failingOf t) [
-      | none ↦ line (text "PASSES" ∷ decimal (length (t .dossier .tests)) ∷ [])
-      | some (i, w) ↦ failsLine t i w
-    ]
+abbrev pub verdictLine : Trial → Option (ℕ × Word) → List ℕ
+verdictLine t none = line (text "PASSES" ∷ decimal (length (t .dossier .tests)) ∷ [])
+verdictLine t (some (i, w)) = failsLine t i w
 
 unfoldable pub runLine : List ℕ → List ℕ → List ℕ
-runLine goldenFile unitFile = answered (run goldenFile unitFile) verdictLine refusalLine
+runLine goldenFile unitFile = answered (run goldenFile unitFile) (λ t. verdictLine t (failingOf t)) refusalLine

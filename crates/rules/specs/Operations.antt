@@ -149,15 +149,13 @@ run dossierFile unitFile = do
 abbrev pub failingOf : Trial → Option (ℕ × Word)
 failingOf t = failing (golden (t .dossier)) (unit (t .unit)) (t .dossier .tests)
 
-abbrev pub verdict : Trial → Ran
-verdict t =
-    elim (failingOf t) [
-      | none ↦ Passes (length (t .dossier .tests))
-      | some (i, w) ↦ Fails i (firstDifference (answer (golden (t .dossier)) w) (answer (unit (t .unit)) w))
-    ]
+-- PASSES, or FAILS with the test that was found
+abbrev pub verdict : Trial → Option (ℕ × Word) → Ran
+verdict t none = Passes (length (t .dossier .tests))
+verdict t (some (i, w)) = Fails i (firstDifference (answer (golden (t .dossier)) w) (answer (unit (t .unit)) w))
 
 abbrev pub runAnswer : List ℕ → List ℕ → Ran
-runAnswer dossierFile unitFile = answered (run dossierFile unitFile) verdict RunRefused
+runAnswer dossierFile unitFile = answered (run dossierFile unitFile) (λ t. verdict t (failingOf t)) RunRefused
 
 -- The shortest word that tells golden and unit apart, among equals the first by inputs. Where any does, one of at most
 -- n + u - 1 inputs does.
@@ -179,13 +177,21 @@ compare dossierFile unitFile out = do
   fitsIfAny (telling d u) out
   fine (telling d u)
 
+-- EQUAL, or DIFFERS with the length of the telling word
+abbrev pub comparison : Option Word → Compared
+comparison none = Equal
+comparison (some w) = Differs (length w)
+
+-- EQUAL writes nothing
+abbrev pub comparedOutput : List ℕ → Option Word → List ℕ
+comparedOutput out none = out
+comparedOutput out (some w) = overwritten w out
+
 abbrev pub compareAnswer : List ℕ → List ℕ → List ℕ → Compared
-compareAnswer dossierFile unitFile out =
-    answered (compare dossierFile unitFile out) (elim [ none ↦ Equal | some w ↦ Differs (length w) ]) CompareRefused
+compareAnswer dossierFile unitFile out = answered (compare dossierFile unitFile out) comparison CompareRefused
 
 abbrev pub compareOutput : List ℕ → List ℕ → List ℕ → List ℕ
-compareOutput dossierFile unitFile out =
-    answered (compare dossierFile unitFile out) (elim [ none ↦ out | some w ↦ overwritten w out ]) (λ r. out)
+compareOutput dossierFile unitFile out = answered (compare dossierFile unitFile out) (comparedOutput out) (λ r. out)
 
 -- the place of the first record whose word an earlier record has
 unfoldable pub repeated : List SheetRecord → Option (ℕ × SheetRecord)
@@ -230,15 +236,13 @@ judge dossierFile sheetFile = do
 abbrev pub deviatingOf : Paired → Option (ℕ × Word)
 deviatingOf p = deviating (golden (p .dossier)) (p .records) (p .dossier .tests)
 
-abbrev pub judgement : Paired → Judged
-judgement p =
-    elim (deviatingOf p) [
-      | none ↦ Agrees
-      | some (i, t) ↦ Deviates i (firstDifference (answer (golden (p .dossier)) t) (recordedFor (p .records) t))
-    ]
+-- AGREES, or DEVIATES with the test that was found
+abbrev pub judgement : Paired → Option (ℕ × Word) → Judged
+judgement p none = Agrees
+judgement p (some (i, t)) = Deviates i (firstDifference (answer (golden (p .dossier)) t) (recordedFor (p .records) t))
 
 abbrev pub judgeAnswer : List ℕ → List ℕ → Judged
-judgeAnswer dossierFile sheetFile = answered (judge dossierFile sheetFile) judgement JudgeRefused
+judgeAnswer dossierFile sheetFile = answered (judge dossierFile sheetFile) (λ p. judgement p (deviatingOf p)) JudgeRefused
 
 -- where a part of a file stands, and its length
 pub record Part : Type 0 where
@@ -260,10 +264,14 @@ testPart d i t =
       size = length t;
     }
 
--- the part of the dossier that the judge hands back: the test that deviates; with every other answer it is empty
+-- the test that deviates; with every other answer the part is empty
+abbrev pub deviatingPart : DossierData → Option (ℕ × Word) → Part
+deviatingPart d none = noPart
+deviatingPart d (some (i, t)) = testPart d i t
+
+-- the part of the dossier that the judge hands back
 abbrev pub judgedPart : List ℕ → List ℕ → Part
-judgedPart dossierFile sheetFile =
-    answered (judge dossierFile sheetFile) (λ p. elim (deviatingOf p) [ none ↦ noPart | some (i, t) ↦ testPart (p .dossier) i t ]) (λ r. noPart)
+judgedPart dossierFile sheetFile = answered (judge dossierFile sheetFile) (λ p. deviatingPart (p .dossier) (deviatingOf p)) (λ r. noPart)
 
 -- the count of the tests and the sum of their lengths
 abbrev pub costOf : List Word → ℕ × ℕ

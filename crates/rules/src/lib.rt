@@ -1,7 +1,10 @@
 // The kinds of number, refusal and answer of document 01. What each one means stands in specs/.
 
-// The four sorts of number. Each is its own type and its field is private, so that no text outside this crate can turn
-// one sort into another.
+ghost use mathlib.Core.Path.{_≡_};
+
+// The four sorts of number. Each is its own type and its field is private, so that no text outside this crate can use one
+// for another without saying so: `numbered` makes one where a file is read, `number` gives its number where an answer is
+// packed or printed or an entry looked up.
 pub struct GoldenState(u8);
 
 pub struct UnitState(u8);
@@ -9,6 +12,62 @@ pub struct UnitState(u8);
 pub struct Input(u8);
 
 pub struct Output(u8);
+
+impl GoldenState {
+    pub fn numbered(number: u8) -> GoldenState
+        ensures { λ r. ⌜ r .0 ≡ number ⌝ }
+    {
+        GoldenState(number)
+    }
+
+    pub fn number(self) -> u8
+        ensures { λ r. ⌜ r ≡ self .0 ⌝ }
+    {
+        self.0
+    }
+}
+
+impl UnitState {
+    pub fn numbered(number: u8) -> UnitState
+        ensures { λ r. ⌜ r .0 ≡ number ⌝ }
+    {
+        UnitState(number)
+    }
+
+    pub fn number(self) -> u8
+        ensures { λ r. ⌜ r ≡ self .0 ⌝ }
+    {
+        self.0
+    }
+}
+
+impl Input {
+    pub fn numbered(number: u8) -> Input
+        ensures { λ r. ⌜ r .0 ≡ number ⌝ }
+    {
+        Input(number)
+    }
+
+    pub fn number(self) -> u8
+        ensures { λ r. ⌜ r ≡ self .0 ⌝ }
+    {
+        self.0
+    }
+}
+
+impl Output {
+    pub fn numbered(number: u8) -> Output
+        ensures { λ r. ⌜ r .0 ≡ number ⌝ }
+    {
+        Output(number)
+    }
+
+    pub fn number(self) -> u8
+        ensures { λ r. ⌜ r ≡ self .0 ⌝ }
+    {
+        self.0
+    }
+}
 
 // Sizes.
 pub const MOST_INPUTS: u8 = 16;

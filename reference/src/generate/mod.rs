@@ -1,0 +1,75 @@
+//! Generated cases: the same seed always gives the same files.
+//!
+//! The files are made to sit where a wrong program goes wrong: accepted dossiers with units that
+//! are nearly the golden, dossiers that lack one word, files at their limits, damaged files.
+
+mod damage;
+mod dice;
+mod dossiers;
+mod limits;
+mod machines;
+mod sheets;
+mod units;
+
+pub use dice::Dice;
+
+use crate::build::built_bytes;
+use crate::compare::compared;
+use crate::files::{write_dossier, write_sheet, write_unit};
+use crate::sizes::{MOST_DOSSIER_BYTES, MOST_SHEET_BYTES};
+
+/// One file of each sort and the length of an output; what each operation is to be tried on.
+#[derive(Clone, Debug, PartialEq, Eq)]
+pub struct Case {
+    pub dossier: Vec<u8>,
+    pub unit: Vec<u8>,
+    pub sheet: Vec<u8>,
+    pub output_length: usize,
+}
+
+/// As many cases of a seed as asked for.
+pub fn cases(seed: u64, count: u64) -> impl Iterator<Item = Case> {
+    (0..count).map(move |number| case(seed, number))
+}
+
+/// One case of a seed, without those before it.
+pub fn case(seed: u64, number: u64) -> Case {
+    let mut dice = Dice::new(seed, number);
+    let draft = dossiers::draft(&mut dice);
+    let unit = write_unit(&units::unit_for(&mut dice, &draft));
+    let sheet = write_sheet(&sheets::sheet_for(&mut dice, &draft));
+    let dossier = write_dossier(&draft);
+    let dossier = sometimes_damaged(&mut dice, 6, dossier, MOST_DOSSIER_BYTES);
+    let unit = sometimes_damaged(&mut dice, 5, unit, MOST_DOSSIER_BYTES);
+    let sheet = sometimes_damaged(&mut dice, 5, sheet, MOST_SHEET_BYTES);
+    let output_length = output_length(&mut dice, &dossier, &unit);
+    Case {
+        dossier,
+        unit,
+        sheet,
+        output_length,
+    }
+}
+
+fn sometimes_damaged(dice: &mut Dice, one_in: usize, bytes: Vec<u8>, most: usize) -> Vec<u8> {
+    if dice.one_in(one_in) {
+        damage::damaged(dice, bytes, most)
+    } else {
+        bytes
+    }
+}
+
+/// Output lengths that just fit the built dossier or the telling word, that are one byte short of
+/// it, and others.
+fn output_length(dice: &mut Dice, dossier: &[u8], unit: &[u8]) -> usize {
+    let built = built_bytes(dossier).map_or(0, |bytes| bytes.len());
+    let telling = match compared(dossier, unit) {
+        Ok(Some(word)) => word.len(),
+        _ => 0,
+    };
+    let shorter_by_one = usize::from(dice.one_in(2));
+    let any = dice.below(300);
+    let full = MOST_DOSSIER_BYTES + dice.below(2);
+    let fitting = *dice.pick(&[built, built, telling, telling, any, full]);
+    fitting.saturating_sub(shorter_by_one)
+}

@@ -1,0 +1,170 @@
+//! The seventeen refusals (document 01, section "Operations and answers").
+
+use crate::machine::{digits, GoldenState, Word};
+use std::fmt;
+
+/// What a refusal can concern.
+#[derive(Clone, Copy, Debug, PartialEq, Eq, Hash)]
+pub enum File {
+    Dossier,
+    Unit,
+    Sheet,
+    Output,
+}
+
+/// A byte of a file, placed from 0.
+#[derive(Clone, Copy, Debug, PartialEq, Eq, Hash)]
+pub struct Place {
+    pub file: File,
+    pub byte: usize,
+}
+
+/// A refusal with what is returned along with it.
+#[derive(Clone, Debug, PartialEq, Eq, Hash)]
+pub enum Refusal {
+    TooLong(Place),
+    CutShort(Place),
+    BadNumbers(Place),
+    BadTable(Place),
+    BadWord(Place),
+    Trailing(Place),
+    NoEmptyWord,
+    Unreached {
+        state: GoldenState,
+    },
+    NoSeparator,
+    NotSeparated {
+        first: GoldenState,
+        second: GoldenState,
+    },
+    Missing {
+        cover: usize,
+        middle: Word,
+        separator: usize,
+    },
+    Repeated {
+        record: usize,
+    },
+    Foreign {
+        record: usize,
+    },
+    Absent {
+        test: usize,
+    },
+    OtherInputs,
+    TooManyStates,
+    NoRoom {
+        needed: usize,
+    },
+}
+
+impl Refusal {
+    /// The number of the refusal, 1 to 17.
+    pub fn number(&self) -> u8 {
+        self.number_and_name().0
+    }
+
+    /// The name of the refusal, as the table has it.
+    pub fn name(&self) -> &'static str {
+        self.number_and_name().1
+    }
+
+    fn number_and_name(&self) -> (u8, &'static str) {
+        match self {
+            Refusal::TooLong(_) => (1, "TOO LONG"),
+            Refusal::CutShort(_) => (2, "CUT SHORT"),
+            Refusal::BadNumbers(_) => (3, "BAD NUMBERS"),
+            Refusal::BadTable(_) => (4, "BAD TABLE"),
+            Refusal::BadWord(_) => (5, "BAD WORD"),
+            Refusal::Trailing(_) => (6, "TRAILING"),
+            Refusal::NoEmptyWord => (7, "NO EMPTY WORD"),
+            Refusal::Unreached { .. } => (8, "UNREACHED"),
+            Refusal::NoSeparator => (9, "NO SEPARATOR"),
+            Refusal::NotSeparated { .. } => (10, "NOT SEPARATED"),
+            Refusal::Missing { .. } => (11, "MISSING"),
+            Refusal::Repeated { .. } => (12, "REPEATED"),
+            Refusal::Foreign { .. } => (13, "FOREIGN"),
+            Refusal::Absent { .. } => (14, "ABSENT"),
+            Refusal::OtherInputs => (15, "OTHER INPUTS"),
+            Refusal::TooManyStates => (16, "TOO MANY STATES"),
+            Refusal::NoRoom { .. } => (17, "NO ROOM"),
+        }
+    }
+
+    /// The byte that refusals 1 to 6 name; the others name none.
+    pub fn place(&self) -> Option<Place> {
+        match self {
+            Refusal::TooLong(place)
+            | Refusal::CutShort(place)
+            | Refusal::BadNumbers(place)
+            | Refusal::BadTable(place)
+            | Refusal::BadWord(place)
+            | Refusal::Trailing(place) => Some(*place),
+            _ => None,
+        }
+    }
+
+    /// The file that the refusal concerns.
+    pub fn file(&self) -> File {
+        match (self.place(), self.number()) {
+            (Some(place), _) => place.file,
+            (None, 12..=14) => File::Sheet,
+            (None, 15 | 16) => File::Unit,
+            (None, 17) => File::Output,
+            (None, _) => File::Dossier,
+        }
+    }
+}
+
+impl fmt::Display for File {
+    fn fmt(&self, to: &mut fmt::Formatter) -> fmt::Result {
+        to.write_str(match self {
+            File::Dossier => "dossier",
+            File::Unit => "unit",
+            File::Sheet => "sheet",
+            File::Output => "output",
+        })
+    }
+}
+
+/// The refusal as a clerk reads it: number, name, file, and what is returned along with it.
+impl fmt::Display for Refusal {
+    fn fmt(&self, to: &mut fmt::Formatter) -> fmt::Result {
+        let (number, name) = self.number_and_name();
+        write!(to, "REFUSED {number} {name}, {}", self.file())?;
+        match self {
+            Refusal::CutShort(place) => write!(to, ", length {}", place.byte),
+            Refusal::Unreached { state } => write!(to, ", state {}", state.0),
+            Refusal::NotSeparated { first, second } => {
+                write!(to, ", states {} and {}", first.0, second.0)
+            }
+            Refusal::Missing {
+                cover,
+                middle,
+                separator,
+            } => write!(
+                to,
+                ", cover {cover}, middle {}, separator {separator}",
+                digits_or_empty(middle)
+            ),
+            Refusal::Repeated { record } | Refusal::Foreign { record } => {
+                write!(to, ", record {record}")
+            }
+            Refusal::Absent { test } => write!(to, ", test {test}"),
+            Refusal::NoRoom { needed } => write!(to, ", length needed {needed}"),
+            _ => match self.place() {
+                Some(place) => write!(to, ", byte {}", place.byte),
+                None => Ok(()),
+            },
+        }
+    }
+}
+
+/// An empty word would leave a hole in the line.
+fn digits_or_empty(word: &Word) -> String {
+    if word.is_empty() {
+        "empty".to_string()
+    } else {
+        digits(word)
+    }
+}

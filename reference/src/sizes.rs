@@ -1,0 +1,22 @@
+//! The limits of document 01, section "Sizes".
+
+/// The most inputs, k.
+pub const MOST_INPUTS: u8 = 16;
+
+/// The most states of a golden or a unit, and the highest bound m.
+pub const MOST_STATES: u8 = 64;
+
+/// The most by which the bound m may exceed the golden's states n.
+pub const MOST_EXTRA_STATES: u8 = 4;
+
+/// The most inputs of a cover word or a separating word.
+pub const LONGEST_COVER_WORD: u8 = 97;
+
+/// The most inputs of a test or of a word in a sheet.
+pub const LONGEST_TEST: u8 = 200;
+
+/// The most bytes of a dossier or a unit.
+pub const MOST_DOSSIER_BYTES: usize = 65_535;
+
+/// The most bytes of a sheet.
+pub const MOST_SHEET_BYTES: usize = 131_070;

@@ -1,0 +1,39 @@
+//! The example folder holds the worked pieces of document 01.
+
+use crate::common::*;
+use reference::check::{check, Accepted};
+use reference::judge::{judge, JudgeAnswer};
+use reference::line::run_line;
+use std::fs;
+use std::path::Path;
+
+fn example(name: &str) -> Vec<u8> {
+    let folder = Path::new(env!("CARGO_MANIFEST_DIR")).join("../examples");
+    fs::read(folder.join(name)).unwrap()
+}
+
+#[test]
+fn golden_is_the_built_m_3_dossier_and_unit_is_v() {
+    assert_eq!(example("golden"), dossier_54());
+    assert_eq!(example("unit"), unit_v_bytes());
+    assert_eq!(check(&example("golden")), Ok(Accepted));
+    let line = run_line(&example("golden"), &example("unit"));
+    assert_eq!(line, "FAILS 1 2 010 1 0\n");
+}
+
+/// The answers of G to the six tests, worked out by hand.
+#[test]
+fn sheet_holds_the_answers_of_g() {
+    let answers: [(&str, &[u8]); 6] = [
+        ("000", &[0, 0, 0]),
+        ("010", &[0, 0, 1]),
+        ("1000", &[0, 1, 0, 0]),
+        ("1010", &[0, 1, 0, 1]),
+        ("1100", &[0, 0, 1, 0]),
+        ("1110", &[0, 0, 0, 1]),
+    ];
+    let bytes = reference::files::write_sheet(&sheet(&answers));
+    assert_eq!(example("sheet"), bytes);
+    let judged = judge(&example("golden"), &example("sheet"));
+    assert_eq!(judged, Ok(JudgeAnswer::Agrees));
+}

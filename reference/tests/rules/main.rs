@@ -1,0 +1,10 @@
+//! What holds the second program to document 01.
+
+mod common;
+mod definitions;
+mod examples;
+mod packing;
+mod program;
+mod properties;
+mod readings;
+mod worked_pieces;
