@@ -11,12 +11,12 @@ use Rattle.rules.specs.declared.Ran.the-variants.{Fails}
 use Rattle.rules.specs.declared.Compared.{Compared}
 use Rattle.rules.specs.declared.Compared.the-variants.{Differs}
 use Rattle.rules.specs.declared.Judged.{Judged}
-use Rattle.rules.specs.declared.Judged.the-variants.{Deviates}
+use Rattle.rules.specs.declared.Judged.the-variants.{Agrees, Deviates}
 use Rattle.rules.specs.declared.Refusal.the-variants.{NoEmptyWord, Unreached, NoSeparator, NotSeparated, Missing, NoRoom}
 use Rattle.rules.specs.Lists.{sum}
 use Rattle.rules.specs.Words.{Word, wordsOf, shortlex}
 use Rattle.rules.specs.Machines.{answer}
-use Rattle.rules.specs.Files.{DossierData, UnitData, golden, unit, countBytes, outputBytes, entryBytes, tableBytes, wordBytes, wordsBytes, frontBytes, dossierBytes}
+use Rattle.rules.specs.Files.{DossierData, UnitData, SheetRecord, golden, unit, countBytes, outputBytes, entryBytes, tableBytes, wordBytes, wordsBytes, frontBytes, dossierBytes}
 use Rattle.rules.specs.Reading.{byte, judged, count, many, word, words, output, entry, table, sheetRecord, ending, dossier, unitTable, sheet}
 use Rattle.rules.specs.Needed.{middles, needed, neededWords, unreached, pairs, unseparated, missing, distinct, maximalOf, builtTests}
 use Rattle.rules.specs.Answers.{goldenState, middleOf}
@@ -72,17 +72,17 @@ abbrev dossierG : ℕ → List ℕ → List ℕ → List ℕ → List ℕ
 dossierG m cover separating tests = numbersG m ++ tableG ++ cover ++ separating ++ tests
 
 -- the 37 bytes
-abbrev built2 : List ℕ
+abbrev pub built2 : List ℕ
 built2 =
     0x03 ∷ 0x00 ∷ 0x02 ∷ 0x02 ∷ 0x02 ∷ 0x04 ∷ 0x00 ∷ 0x00 ∷ 0x00 ∷ 0x01 ∷ 0x00 ∷ 0x00 ∷ 0x01 ∷ 0x01 ∷ 0x00 ∷ 0x02 ∷ 0x00 ∷ 0x00 ∷ 0x01 ∷ 0x01
     ∷ 0x01 ∷ 0x00 ∷ 0x01 ∷ 0x00 ∷ 0x03 ∷ 0x00 ∷ 0x02 ∷ 0x00 ∷ 0x00 ∷ 0x03 ∷ 0x01 ∷ 0x00 ∷ 0x00 ∷ 0x03 ∷ 0x01 ∷ 0x01 ∷ 0x00 ∷ []
 
 -- the 54 bytes
-abbrev built3 : List ℕ
+abbrev pub built3 : List ℕ
 built3 = dossierG 3 coverG separatingG tests3
 
 -- V: two numbers, six entries
-abbrev unitV : List ℕ
+abbrev pub unitV : List ℕ
 unitV = 2 ∷ 0 ∷ 2 ∷ 3 ∷ 6 ∷ 0 ∷ 2 ∷ 0 ∷ 1 ∷ 0 ∷ 0 ∷ 1 ∷ 1 ∷ 0 ∷ 2 ∷ 0 ∷ 2 ∷ 0 ∷ []
 
 -- one state, one input, output 0, cover the empty word
@@ -90,9 +90,57 @@ abbrev dossier1 : ℕ → List ℕ → List ℕ → List ℕ
 dossier1 m separating tests = (3 ∷ 0 ∷ 1 ∷ 1 ∷ m ∷ []) ++ (1 ∷ 0 ∷ 0 ∷ 0 ∷ []) ++ onlyEmpty ++ separating ++ tests
 
 -- a sheet with records for 00, 100 and 110: the answer to 00 is 0 0, the others are given
-abbrev sheet2 : List ℕ → List ℕ → List ℕ
+abbrev pub sheet2 : List ℕ → List ℕ → List ℕ
 sheet2 answer100 answer110 =
     (3 ∷ 0 ∷ 2 ∷ 0 ∷ 0 ∷ 0 ∷ 0 ∷ []) ++ (3 ∷ 1 ∷ 0 ∷ 0 ∷ []) ++ answer100 ++ (3 ∷ 1 ∷ 1 ∷ 0 ∷ []) ++ answer110
+
+-- the same sheet with the records in another order: 110, 00, 100
+abbrev pub sheet2′ : List ℕ
+sheet2′ = 3 ∷ 0 ∷ 3 ∷ 1 ∷ 1 ∷ 0 ∷ 0 ∷ 0 ∷ 1 ∷ 2 ∷ 0 ∷ 0 ∷ 0 ∷ 0 ∷ 3 ∷ 1 ∷ 0 ∷ 0 ∷ 0 ∷ 1 ∷ 0 ∷ []
+
+-- V's answers to the tests for m = 3
+abbrev pub sheetV : List ℕ
+sheetV =
+    6 ∷ 0 ∷ 3 ∷ 0 ∷ 0 ∷ 0 ∷ 0 ∷ 0 ∷ 0 ∷ 3 ∷ 0 ∷ 1 ∷ 0 ∷ 0 ∷ 0 ∷ 0 ∷ 4 ∷ 1 ∷ 0 ∷ 0 ∷ 0 ∷ 0 ∷ 1 ∷ 0 ∷ 0 ∷ 4 ∷ 1 ∷ 0 ∷ 1 ∷ 0 ∷ 0 ∷ 1 ∷ 0 ∷ 1
+    ∷ 4 ∷ 1 ∷ 1 ∷ 0 ∷ 0 ∷ 0 ∷ 0 ∷ 1 ∷ 0 ∷ 4 ∷ 1 ∷ 1 ∷ 1 ∷ 0 ∷ 0 ∷ 0 ∷ 0 ∷ 1 ∷ []
+
+-- what these files hold
+abbrev pub dataG : ℕ → List Word → DossierData
+dataG m tests =
+    record {
+      inputs = 2;
+      states = 2;
+      boundByte = m;
+      table = (0, 0) ∷ (1, 0) ∷ (0, 1) ∷ (1, 0) ∷ [];
+      cover = [] ∷ (1 ∷ []) ∷ [];
+      separating = (0 ∷ []) ∷ [];
+      tests = tests;
+    }
+
+abbrev pub dataG2 : DossierData
+dataG2 = dataG 2 ((0 ∷ 0 ∷ []) ∷ (1 ∷ 0 ∷ 0 ∷ []) ∷ (1 ∷ 1 ∷ 0 ∷ []) ∷ [])
+
+abbrev pub dataG3 : DossierData
+dataG3 =
+    dataG 3 ((0 ∷ 0 ∷ 0 ∷ []) ∷ (0 ∷ 1 ∷ 0 ∷ []) ∷ (1 ∷ 0 ∷ 0 ∷ 0 ∷ []) ∷ (1 ∷ 0 ∷ 1 ∷ 0 ∷ []) ∷ (1 ∷ 1 ∷ 0 ∷ 0 ∷ []) ∷ (1 ∷ 1 ∷ 1 ∷ 0 ∷ []) ∷ [])
+
+abbrev pub dataV : UnitData
+dataV = record { inputs = 2; states = 3; table = (2, 0) ∷ (1, 0) ∷ (0, 1) ∷ (1, 0) ∷ (2, 0) ∷ (2, 0) ∷ [] }
+
+-- a record: a word and its answer
+abbrev pub recordOf : Word → List ℕ → SheetRecord
+recordOf w outputs = record { word = w; recorded = outputs }
+
+abbrev pub records2 : List SheetRecord
+records2 = recordOf (0 ∷ 0 ∷ []) (0 ∷ 0 ∷ []) ∷ recordOf (1 ∷ 0 ∷ 0 ∷ []) (0 ∷ 1 ∷ 0 ∷ []) ∷ recordOf (1 ∷ 1 ∷ 0 ∷ []) (0 ∷ 0 ∷ 1 ∷ []) ∷ []
+
+abbrev pub records2′ : List SheetRecord
+records2′ = recordOf (1 ∷ 1 ∷ 0 ∷ []) (0 ∷ 0 ∷ 1 ∷ []) ∷ recordOf (0 ∷ 0 ∷ []) (0 ∷ 0 ∷ []) ∷ recordOf (1 ∷ 0 ∷ 0 ∷ []) (0 ∷ 1 ∷ 0 ∷ []) ∷ []
+
+abbrev pub recordsV : List SheetRecord
+recordsV =
+    recordOf (0 ∷ 0 ∷ 0 ∷ []) (0 ∷ 0 ∷ 0 ∷ []) ∷ recordOf (0 ∷ 1 ∷ 0 ∷ []) (0 ∷ 0 ∷ 0 ∷ []) ∷ recordOf (1 ∷ 0 ∷ 0 ∷ 0 ∷ []) (0 ∷ 1 ∷ 0 ∷ 0 ∷ [])
+    ∷ recordOf (1 ∷ 0 ∷ 1 ∷ 0 ∷ []) (0 ∷ 1 ∷ 0 ∷ 1 ∷ []) ∷ recordOf (1 ∷ 1 ∷ 0 ∷ 0 ∷ []) (0 ∷ 0 ∷ 1 ∷ 0 ∷ []) ∷ recordOf (1 ∷ 1 ∷ 1 ∷ 0 ∷ []) (0 ∷ 0 ∷ 0 ∷ 1 ∷ []) ∷ []
 
 -- an output of `n` bytes, all 170
 abbrev blank : ℕ → List ℕ
@@ -132,52 +180,64 @@ answers2 = (0 ∷ 0 ∷ []) ∷ (0 ∷ 1 ∷ 0 ∷ []) ∷ (0 ∷ 0 ∷ 1 ∷ []
 
 pub record Starred : Type 0 where
   -- m = 2: needed 0, 00, 10, 100, 110
-  needed-2 : ofDossier built2 (λ d. distinct (neededWords d)) ≡ fine needed2
+  pub needed-2 : ofDossier built2 (λ d. distinct (neededWords d)) ≡ fine needed2
   -- built tests 00, 100, 110: the 37 bytes, and later bytes of the output stay
-  build-2 : Builds (dossierG 2 coverG separatingG noWords) (blank 39) (Written 37) (built2 ++ blank 2)
+  pub build-2 : Builds (dossierG 2 coverG separatingG noWords) (blank 39) (Written 37) (built2 ++ blank 2)
   -- output of 37 bytes fits
-  build-2-fits : Builds (dossierG 2 coverG separatingG noWords) (blank 37) (Written 37) built2
+  pub build-2-fits : Builds (dossierG 2 coverG separatingG noWords) (blank 37) (Written 37) built2
   -- 36 is NO ROOM, needed 37
-  build-2-no-room : Builds (dossierG 2 coverG separatingG noWords) (blank 36) (BuildRefused (NoRoom 37)) (blank 36)
+  pub build-2-no-room : Builds (dossierG 2 coverG separatingG noWords) (blank 36) (BuildRefused (NoRoom 37)) (blank 36)
   -- m = 3: built tests 000, 010, 1000, 1010, 1100, 1110; 54 bytes
-  build-3 : Builds (dossierG 3 coverG separatingG tests2) (blank 54) (Written 54) built3
+  pub build-3 : Builds (dossierG 3 coverG separatingG tests2) (blank 54) (Written 54) built3
   -- m = 3 with the tests 00, 100, 110: MISSING, cover 0, middle 00, separator 0
-  missing-3 : checkAnswer (dossierG 3 coverG separatingG tests2) ≡ CheckRefused (Missing 0 (middleOf (0 ∷ 0 ∷ [])) 0)
+  pub missing-3 : checkAnswer (dossierG 3 coverG separatingG tests2) ≡ CheckRefused (Missing 0 (middleOf (0 ∷ 0 ∷ [])) 0)
   -- without the empty word in the cover: 7
-  no-empty-word : checkAnswer (dossierG 2 only1 separatingG tests2) ≡ CheckRefused NoEmptyWord
+  pub no-empty-word : checkAnswer (dossierG 2 only1 separatingG tests2) ≡ CheckRefused NoEmptyWord
   -- with cover only the empty word: 8, state 1
-  unreached-1 : checkAnswer (dossierG 2 onlyEmpty separatingG tests2) ≡ CheckRefused (Unreached (goldenState 1))
+  pub unreached-1 : checkAnswer (dossierG 2 onlyEmpty separatingG tests2) ≡ CheckRefused (Unreached (goldenState 1))
   -- separating emptied: 9
-  no-separator : checkAnswer (dossierG 2 coverG noWords tests2) ≡ CheckRefused NoSeparator
+  pub no-separator : checkAnswer (dossierG 2 coverG noWords tests2) ≡ CheckRefused NoSeparator
   -- separating only 1: 10, states 0 and 1
-  not-separated : checkAnswer (dossierG 2 coverG only1 tests2) ≡ CheckRefused (NotSeparated (goldenState 0) (goldenState 1))
+  pub not-separated : checkAnswer (dossierG 2 coverG only1 tests2) ≡ CheckRefused (NotSeparated (goldenState 0) (goldenState 1))
   -- V answers 00, 100, 110 as G does
-  golden-answers-2 : ofDossier built2 (λ d. map (answer (golden d)) (d .tests)) ≡ fine answers2
-  unit-answers-2 : ofDossier built2 (λ d. ofUnit unitV (λ u. map (answer (unit u)) (d .tests))) ≡ fine (fine answers2)
+  pub golden-answers-2 : ofDossier built2 (λ d. map (answer (golden d)) (d .tests)) ≡ fine answers2
+  pub unit-answers-2 : ofDossier built2 (λ d. ofUnit unitV (λ u. map (answer (unit u)) (d .tests))) ≡ fine (fine answers2)
   -- over the built m = 3 dossier: FAILS, place 1, step 2
-  run-3 : runAnswer built3 unitV ≡ Fails 1 2
+  pub run-3 : runAnswer built3 unitV ≡ Fails 1 2
   -- compare: DIFFERS, 010
-  compare-3 : Compares built3 unitV (blank 5) (Differs 3) (0 ∷ 1 ∷ 0 ∷ blank 2)
+  pub compare-3 : Compares built3 unitV (blank 5) (Differs 3) (0 ∷ 1 ∷ 0 ∷ blank 2)
   -- one state, one input, output 0: m = 1 builds the single test 0
-  one-state-1 : Builds (dossier1 1 onlyEmpty noWords) (blank 20) (Written 19) (dossier1 1 onlyEmpty (1 ∷ 0 ∷ 1 ∷ 0 ∷ []) ++ blank 1)
+  pub one-state-1 : Builds (dossier1 1 onlyEmpty noWords) (blank 20) (Written 19) (dossier1 1 onlyEmpty (1 ∷ 0 ∷ 1 ∷ 0 ∷ []) ++ blank 1)
   -- m = 2 builds 00
-  one-state-2 : Builds (dossier1 2 onlyEmpty noWords) (blank 20) (Written 20) (dossier1 2 onlyEmpty (1 ∷ 0 ∷ 2 ∷ 0 ∷ 0 ∷ []))
+  pub one-state-2 : Builds (dossier1 2 onlyEmpty noWords) (blank 20) (Written 20) (dossier1 2 onlyEmpty (1 ∷ 0 ∷ 2 ∷ 0 ∷ 0 ∷ []))
   -- with the last two answers exchanged, every output total is the same
-  exchanged-totals : totals (sheet2 (0 ∷ 0 ∷ 1 ∷ []) (0 ∷ 1 ∷ 0 ∷ [])) ≡ totals (sheet2 (0 ∷ 1 ∷ 0 ∷ []) (0 ∷ 0 ∷ 1 ∷ []))
+  pub exchanged-totals : totals (sheet2 (0 ∷ 0 ∷ 1 ∷ []) (0 ∷ 1 ∷ 0 ∷ [])) ≡ totals (sheet2 (0 ∷ 1 ∷ 0 ∷ []) (0 ∷ 0 ∷ 1 ∷ []))
   -- and the verdict is DEVIATES, place 1, step 1; the test 100 stands at byte 30 of the dossier
-  exchanged : Judges built2 (sheet2 (0 ∷ 0 ∷ 1 ∷ []) (0 ∷ 1 ∷ 0 ∷ [])) (Deviates 1 1) 30 (1 ∷ 0 ∷ 0 ∷ [])
+  pub exchanged : Judges built2 (sheet2 (0 ∷ 0 ∷ 1 ∷ []) (0 ∷ 1 ∷ 0 ∷ [])) (Deviates 1 1) 30 (1 ∷ 0 ∷ 0 ∷ [])
   -- Ours: the 37 bytes are accepted.
-  accepted-2 : checkAnswer built2 ≡ Accepted
+  pub accepted-2 : checkAnswer built2 ≡ Accepted
   -- the byte 0 for m and separating only 01 build 001, 01, 1001, 101, 1101: 48 bytes, the byte for m still 0
-  by-inputs : Builds (dossierG 0 coverG only01 noWords) (blank 48) (Written 48) (dossierG 0 coverG only01 testsByInputs)
+  pub by-inputs : Builds (dossierG 0 coverG only01 noWords) (blank 48) (Written 48) (dossierG 0 coverG only01 testsByInputs)
   -- one state, m = 1, separating emptied: 9
-  one-state-no-separator : checkAnswer (dossier1 1 noWords noWords) ≡ CheckRefused NoSeparator
+  pub one-state-no-separator : checkAnswer (dossier1 1 noWords noWords) ≡ CheckRefused NoSeparator
   -- m = 3 with the tests only 00: MISSING, cover 0, middle 1, separator 0
-  shorter-middle-first : checkAnswer (dossierG 3 coverG separatingG only00) ≡ CheckRefused (Missing 0 (middleOf (1 ∷ [])) 0)
+  pub shorter-middle-first : checkAnswer (dossierG 3 coverG separatingG only00) ≡ CheckRefused (Missing 0 (middleOf (1 ∷ [])) 0)
   -- the sheet with 100 answered 0 0 0: DEVIATES, place 1, step 1, though the last output is right
-  inner-step : Judges built2 (sheet2 (0 ∷ 0 ∷ 0 ∷ []) (0 ∷ 0 ∷ 1 ∷ [])) (Deviates 1 1) 30 (1 ∷ 0 ∷ 0 ∷ [])
+  pub inner-step : Judges built2 (sheet2 (0 ∷ 0 ∷ 0 ∷ []) (0 ∷ 0 ∷ 1 ∷ [])) (Deviates 1 1) 30 (1 ∷ 0 ∷ 0 ∷ [])
+  -- what the two dossiers, the unit V and the sheets hold
+  pub reads-2 : readDossier built2 ≡ fine dataG2
+  pub reads-3 : readDossier built3 ≡ fine dataG3
+  pub unit-reads : readUnit unitV ≡ fine dataV
+  pub sheet-reads : readSheet 2 (sheet2 (0 ∷ 1 ∷ 0 ∷ []) (0 ∷ 0 ∷ 1 ∷ [])) ≡ fine records2
+  pub sheet-reads′ : readSheet 2 sheet2′ ≡ fine records2′
+  pub sheet-reads-V : readSheet 2 sheetV ≡ fine recordsV
+  -- the built m = 3 dossier is accepted; the m = 2 sheet agrees in either order; V's sheet deviates where V fails
+  pub accepted-3 : checkAnswer built3 ≡ Accepted
+  pub agrees-2 : judgeAnswer built2 (sheet2 (0 ∷ 1 ∷ 0 ∷ []) (0 ∷ 0 ∷ 1 ∷ [])) ≡ Agrees
+  pub agrees-2′ : judgeAnswer built2 sheet2′ ≡ Agrees
+  pub deviates-V : judgeAnswer built3 sheetV ≡ Deviates 1 2
   -- the line that the program prints
-  line-3 : runLine built3 unitV ≡ text "FAILS 1 2 010 1 0\n"
+  pub line-3 : runLine built3 unitV ≡ text "FAILS 1 2 010 1 0\n"
 
 pub starred : Starred
 unfolding flatMap wordsOf shortlex countBytes outputBytes entryBytes tableBytes wordBytes wordsBytes frontBytes dossierBytes byte judged count many word words output entry table sheetRecord ending dossier unitTable sheet middles needed unreached pairs unseparated missing maximalOf builtTests readFile sound enough check build run telling compare repeated foreign absent pair judge testPart decimal runLine
@@ -206,5 +266,15 @@ starred =
       one-state-no-separator = refl;
       shorter-middle-first = refl;
       inner-step = (refl, refl, refl);
+      reads-2 = refl;
+      reads-3 = refl;
+      unit-reads = refl;
+      sheet-reads = refl;
+      sheet-reads′ = refl;
+      sheet-reads-V = refl;
+      accepted-3 = refl;
+      agrees-2 = refl;
+      agrees-2′ = refl;
+      deviates-V = refl;
       line-3 = refl;
     }

@@ -52,10 +52,10 @@ AllGolden d rs = (r : SheetRecord) → r ∈ rs → answer (golden d) (r .word) 
 
 -- the test at place i is the first whose recorded answer is not the golden's, and they differ first at step j
 pub record FirstDeviating (d : DossierData) (rs : List SheetRecord) (i j : ℕ) : Type 0 where
-  pub record′ : SheetRecord
-  pub stands : record′ ∈ rs
-  pub here : At (d .tests) i (record′ .word)
-  pub step : FirstStep (answer (golden d) (record′ .word)) (record′ .recorded) j
+  pub this : SheetRecord
+  pub stands : this ∈ rs
+  pub here : At (d .tests) i (this .word)
+  pub step : FirstStep (answer (golden d) (this .word)) (this .recorded) j
   pub earlier : (i′ : ℕ) (r : SheetRecord) → i′ < i → r ∈ rs → At (d .tests) i′ (r .word) → answer (golden d) (r .word) ≡ r .recorded
 
 module _ (dossierFile sheetFile : List ℕ) where
@@ -125,18 +125,18 @@ module _ (d : DossierData) (rs : List SheetRecord) (belongs : Belongs (d .tests)
       let (r, m, is) = belongs .whole t (at-in (d .tests) i (u .here)) in
       let recorded : sheet-answer t ≡ r .recorded = ap sheet-answer (sym is) ∙ recorded-for rs (belongs .once) r m in
       record {
-        record′ = r;
+        this = r;
         stands = m;
         here = rw is (u .here);
         step = rw (is, ← recorded) step;
         earlier = λ i′ s less n at. recorded-golden s n .0 (u .earlier i′ (s .word) less at);
       }
 
-  deviating-unlike : (i j : ℕ) (f : FirstDeviating d rs i j) → FirstUnlike true-answer sheet-answer (d .tests) i (f .record′ .word)
+  deviating-unlike : (i j : ℕ) (f : FirstDeviating d rs i j) → FirstUnlike true-answer sheet-answer (d .tests) i (f .this .word)
   deviating-unlike i j f =
       record {
         here = f .here;
-        unlike = λ e. f .step .differs (ap (λ (l : List ℕ). getElem? l j) (recorded-golden (f .record′) (f .stands) .0 e));
+        unlike = λ e. f .step .differs (ap (λ (l : List ℕ). getElem? l j) (recorded-golden (f .this) (f .stands) .0 e));
         earlier = λ i′ v less at.
             let (s, n, is) = belongs .whole v (at-in (d .tests) i′ at) in
             rw (← is) (recorded-golden s n .1 (f .earlier i′ s less n (rw is at)));
@@ -167,5 +167,5 @@ judge-exactly dossierFile sheetFile r = (λ e. rw e at gives, given r)
         rw (judge-fits dossierFile sheetFile (record { dossier = d; records = rs }) .1 f, alike-none (answer (golden d)) (recordedFor rs) (d .tests) (golden-none d rs (f .belongs) all))
     given (Deviates i j) (d, rs, f, x) =
         let u = deviating-unlike d rs (f .belongs) i j x in
-        rw (judge-fits dossierFile sheetFile (record { dossier = d; records = rs }) .1 f, found-unlike (answer (golden d)) (recordedFor rs) (d .tests) u, recorded-for rs (f .belongs .once) (x .record′) (x .stands), step-first (answer (golden d) (x .record′ .word)) (x .record′ .recorded) j (x .step))
+        rw (judge-fits dossierFile sheetFile (record { dossier = d; records = rs }) .1 f, found-unlike (answer (golden d)) (recordedFor rs) (d .tests) u, recorded-for rs (f .belongs .once) (x .this) (x .stands), step-first (answer (golden d) (x .this .word)) (x .this .recorded) j (x .step))
     given (Refused r) h = rw (judge-refuses dossierFile sheetFile r .1 h)

@@ -3,6 +3,11 @@ pub mod Lists
 pub mod Words
 pub mod Orders
 pub mod Shortlex
+pub mod Spelling
+pub mod Readers
+pub mod Sections
+pub mod Contents
+pub mod Files
 pub mod Count
 pub mod Reach
 pub mod Machines
@@ -23,3 +28,7 @@ pub mod Maximal
 pub mod Pairing
 pub mod Judge
 pub mod Reordering
+pub mod Build
+pub mod Demands
+pub mod Writes
+pub mod Examples

@@ -5,12 +5,12 @@ use native.Mathlib.Omega.{arith}
 use native.Mathlib.Decide.{ℕ-discrete}
 use native.Mathlib.Nat.{zero-add, add-zero}
 use mathlib.Core.Path.{_≡_, refl, sym, _∙_, ap}
-use mathlib.Core.Logic.{_↔_, _⊎_, inl, inr, ⊎-elim}
-use mathlib.Core.List.{List, [], _∷_, _++_, map, flatMap, List·Memᴰ, List·Memᴰ·head, List·Memᴰ·tail, List·Memᴰ·not-nil, List·Memᴰ·cases-cons, List·Memᴰ·append-cases, Memᴰ·append-left, Memᴰ·append-right, Memᴰ·map, Memᴰ·of-map}
-use mathlib.Core.Bool.{Bool, true, false, not, cond, _&&_, _||_, false≢true, true≢false}
+use mathlib.Core.Logic.{_⊎_, inl, inr, ⊎-elim}
+use mathlib.Core.List.{List, [], _∷_, _++_, map, flatMap, List·Memᴰ·head, List·Memᴰ·tail, List·Memᴰ·not-nil, List·Memᴰ·cases-cons, List·Memᴰ·append-cases, Memᴰ·append-left, Memᴰ·append-right, Memᴰ·of-map}
+use mathlib.Core.Bool.{Bool, true, false, false≢true, true≢false}
 use mathlib.Core.Option.{Option, none, some}
 use lib.ListN.{length, getD, take, getElem?}
-use Rattle.rules.specs.Lists.{_∈_, numbersFrom, numbers, placedFrom, placed, any, all, first, keep}
+use Rattle.rules.specs.Lists.{_∈_, numbersFrom, placedFrom, placed, any, all, first, keep}
 
 -- a test has one of two outcomes
 pub outcome : (b : Bool) → (b ≡ true) ⊎ (b ≡ false)
@@ -97,6 +97,11 @@ module _ {A : Type 0} (test : A → Bool) where
   pub none-first : (l : List A) → ((x : A) → x ∈ l → test x ≡ false) → first test l ≡ none
   none-first [] h = refl
   none-first (x ∷ l) h = rw (h x (List·Memᴰ·head refl)) (none-first l (λ z m. h z (List·Memᴰ·tail m)))
+
+-- Two tests that agree on the elements of a list find the same.
+pub first-same : {A : Type 0} (f g : A → Bool) (l : List A) → ((x : A) → x ∈ l → f x ≡ g x) → first f l ≡ first g l
+first-same f g [] h = refl
+first-same f g (x ∷ l) h = rw (h x (List·Memᴰ·head refl), first-same f g l (λ y m. h y (List·Memᴰ·tail m)))
 
 -- each element comes before all that follow it
 abbrev pub Rising : {A : Type 0} → (A → A → Type 0) → List A → Type 0

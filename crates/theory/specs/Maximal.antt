@@ -1,18 +1,17 @@
 -- The words that are no proper beginning of another, each once, put in order of inputs (document 01, "Build").
-use Prim.Native.Nat.{ℕ, zero, suc, _+_, _-_, _≤_, _<_}
+use Prim.Native.Nat.{ℕ, zero, suc, _+_, _≤_, _<_}
 use native.Mathlib.Omega.{arith}
-use native.Mathlib.Decide.{decLe}
 use mathlib.Core.Path.{_≡_, refl, sym, _∙_, ap}
 use mathlib.Core.Logic.{_↔_, _≢_, _⊎_, inl, inr}
-use mathlib.Core.List.{List, [], _∷_, _++_, append-assoc, append-nil, List·Memᴰ·head, List·Memᴰ·tail, List·Memᴰ·not-nil, List·Memᴰ·cases-cons, List-discrete}
-use mathlib.Core.Bool.{Bool, true, false, not, _&&_}
+use mathlib.Core.List.{List, [], _∷_, _++_, append-assoc, append-nil, List·Memᴰ·head, List·Memᴰ·tail, List·Memᴰ·not-nil, List·Memᴰ·cases-cons}
+use mathlib.Core.Bool.{Bool, true, not}
 use borrow.Author.Tests.{not-true, not-false}
 use lib.ListN.{length, length-append}
 use Rattle.rules.specs.Lists.{_∈_, any, keep}
 use Rattle.rules.specs.Words.{Word, same, Begins, begins, beginsProperly, byInputs}
 use Rattle.rules.specs.Needed.{distinct, maximalOf, insert, ordered}
-use Rattle.theory.specs.Lists.{outcome, clash, any-true, any-of, any-false, none-any, in-keep, of-keep, Rising, rising-too}
-use Rattle.theory.specs.Words.{both, same-true, same-refl, same-false, differ-same, begins-true, begins-of}
+use Rattle.theory.specs.Lists.{outcome, clash, any-true, any-false, none-any, in-keep, of-keep, Rising}
+use Rattle.theory.specs.Words.{both, same-true, same-false, differ-same, begins-true, begins-of}
 use Rattle.theory.specs.Orders.{ByInputs, byInputs-transitive, byInputs-total}
 
 -- v is a beginning of w and not w itself

@@ -2,18 +2,18 @@
 -- given exactly for the first of them that begins no test.
 use Prim.Native.Nat.{ℕ, suc, _-_, _≤_, _<_}
 use native.Mathlib.Omega.{arith}
-use mathlib.Core.Path.{_≡_, refl, sym, _∙_, ap}
+use mathlib.Core.Path.{_≡_, refl, sym, _∙_}
 use mathlib.Core.Logic.{_↔_, _⊎_, inl, inr}
-use mathlib.Core.List.{List, [], _∷_, _++_, map, flatMap, Memᴰ·map, Memᴰ·of-map}
+use mathlib.Core.List.{_++_, Memᴰ·map, Memᴰ·of-map}
 use mathlib.Core.Bool.{Bool, true, false, not}
 use mathlib.Core.Option.{none, some}
 use borrow.Author.Tests.{not-true, not-false}
 use lib.ListN.{length}
-use Rattle.rules.specs.Lists.{_∈_, placed, any, first}
-use Rattle.rules.specs.Words.{Word, Valid, Begins, begins, shortlex}
+use Rattle.rules.specs.Lists.{_∈_, placed, any}
+use Rattle.rules.specs.Words.{Word, Valid, Begins, begins}
 use Rattle.rules.specs.Files.{DossierData, bound}
 use Rattle.rules.specs.Needed.{IsNeeded, Need, middles, needed, neededWords, missing}
-use Rattle.theory.specs.Lists.{outcome, clash, any-true, any-of, any-false, none-any, first-none, none-first, Rising, OneWay, Least, first-least, least-first, At, at-in, in-at, in-placed, of-placed, ByPlace, placed-rising, map-rising, flatMap-rising, in-flatMap, of-flatMap}
+use Rattle.theory.specs.Lists.{outcome, clash, any-true, any-of, any-false, none-any, first-none, none-first, Rising, OneWay, first-least, least-first, At, at-in, in-at, in-placed, of-placed, ByPlace, placed-rising, map-rising, flatMap-rising, in-flatMap, of-flatMap}
 use Rattle.theory.specs.Words.{begins-true, begins-of}
 use Rattle.theory.specs.Orders.{ByLength, byLength-one-way}
 use Rattle.theory.specs.Shortlex.{in-shortlex, shortlex-rising}

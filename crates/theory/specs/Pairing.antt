@@ -1,9 +1,9 @@
 -- Document 01, refusals 12 to 14: records are paired with tests by their words, and each refusal is given exactly when its
 -- sentence holds and nothing earlier does.
 use Prim.Native.Nat.{ℕ, _<_}
-use mathlib.Core.Path.{_≡_, refl, sym, _∙_, ap}
-use mathlib.Core.Logic.{_↔_, _≢_, inl, inr}
-use mathlib.Core.List.{List, [], _∷_, map, List·Memᴰ·head, List·Memᴰ·tail, Memᴰ·map, Memᴰ·of-map}
+use mathlib.Core.Path.{_≡_, refl}
+use mathlib.Core.Logic.{_↔_, inl, inr}
+use mathlib.Core.List.{List, map, Memᴰ·map, Memᴰ·of-map}
 use mathlib.Core.Bool.{Bool, true, false, not}
 use mathlib.Core.Option.{none, some}
 use borrow.Author.Tests.{not-true, not-false}
@@ -11,10 +11,10 @@ use lib.ListN.{take}
 use Rattle.rules.specs.declared.Refusal.{Refusal}
 use Rattle.rules.specs.declared.Refusal.the-variants.{Repeated, Foreign, Absent}
 use Rattle.rules.specs.Lists.{_∈_}
-use Rattle.rules.specs.Words.{Word, same, isIn}
+use Rattle.rules.specs.Words.{Word, isIn}
 use Rattle.rules.specs.Files.{SheetRecord}
-use Rattle.rules.specs.Operations.{Outcome, fine, refuse, repeated, foreign, absent, pair}
-use Rattle.theory.specs.Lists.{outcome, optional, clash, At, at-in, in-at, in-take, of-take, FirstAt, found-at, at-found, none-at, at-none}
+use Rattle.rules.specs.Operations.{fine, refuse, repeated, foreign, absent, pair}
+use Rattle.theory.specs.Lists.{outcome, optional, clash, At, at-in, in-at, in-take, of-take, found-at, at-found, none-at, at-none}
 use Rattle.theory.specs.Words.{in-isIn, isIn-in}
 use Rattle.theory.specs.Outcomes.{Settles}
 
@@ -37,16 +37,16 @@ NoneAbsent tests rs = (t : Word) → t ∈ tests → RecordOf rs t
 
 -- the record at place i is the first whose word an earlier record has
 pub record FirstRepeated (rs : List SheetRecord) (i : ℕ) : Type 0 where
-  pub record′ : SheetRecord
-  pub here : At rs i record′
-  pub repeats : EarlierRecord rs i (record′ .word)
+  pub this : SheetRecord
+  pub here : At rs i this
+  pub repeats : EarlierRecord rs i (this .word)
   pub earlier : (j : ℕ) (r : SheetRecord) → j < i → At rs j r → ¬ EarlierRecord rs j (r .word)
 
 -- the record at place i is the first whose word is no test
 pub record FirstForeign (tests : List Word) (rs : List SheetRecord) (i : ℕ) : Type 0 where
-  pub record′ : SheetRecord
-  pub here : At rs i record′
-  pub foreign : ¬ (record′ .word ∈ tests)
+  pub this : SheetRecord
+  pub here : At rs i this
+  pub foreign : ¬ (this .word ∈ tests)
   pub earlier : (j : ℕ) (r : SheetRecord) → j < i → At rs j r → r .word ∈ tests
 
 -- the test at place i is the first that has no record
@@ -118,19 +118,19 @@ module _ (tests : List Word) (rs : List SheetRecord) where
   some-repeated {i} {r} e =
       let f = found-at again rs e in
       record {
-        record′ = r;
+        this = r;
         here = f .here;
         repeats = again-true i (r .word) (f .passes);
         earlier = λ j s less at h. clash (again-of j (s .word) h) (f .earlier j s less at);
       }
 
-  repeated-some : {i : ℕ} (f : FirstRepeated rs i) → repeated rs ≡ some (i, f .record′)
+  repeated-some : {i : ℕ} (f : FirstRepeated rs i) → repeated rs ≡ some (i, f .this)
   unfolding repeated
   repeated-some {i} f =
       at-found again rs
       (record {
         here = f .here;
-        passes = again-of i (f .record′ .word) (f .repeats);
+        passes = again-of i (f .this .word) (f .repeats);
         earlier = λ j s less at. again-false j (s .word) (f .earlier j s less at);
       })
 
@@ -147,13 +147,13 @@ module _ (tests : List Word) (rs : List SheetRecord) where
   some-foreign {i} {r} e =
       let f = found-at unknown rs e in
       record {
-        record′ = r;
+        this = r;
         here = f .here;
         foreign = false-isIn (not-true _ (f .passes));
         earlier = λ j s less at. isIn-in (not-false _ (f .earlier j s less at));
       }
 
-  foreign-some : {i : ℕ} (f : FirstForeign tests rs i) → foreign tests rs ≡ some (i, f .record′)
+  foreign-some : {i : ℕ} (f : FirstForeign tests rs i) → foreign tests rs ≡ some (i, f .this)
   unfolding foreign
   foreign-some f =
       at-found unknown rs

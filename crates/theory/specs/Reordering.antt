@@ -1,16 +1,28 @@
 -- Reordering the records of a sheet changes nothing that the judge says, but for the place of a REPEATED or FOREIGN record.
-use Prim.Native.Nat.{ℕ, zero, suc, _+_, _≤_, _<_}
+use Prim.Native.Nat.{ℕ, zero, suc, _+_, _<_}
 use native.Mathlib.Omega.{arith}
 use mathlib.Core.Path.{_≡_, refl, sym, _∙_, ap}
-use mathlib.Core.Logic.{_↔_, _≢_, _⊎_, inl, inr}
+use mathlib.Core.Logic.{_≢_, inl, inr}
 use mathlib.Core.List.{List, [], _∷_, _++_, List·Memᴰ·head, List·Memᴰ·tail, List·Memᴰ·not-nil, List·Memᴰ·cases-cons, List·Memᴰ·append-cases, Memᴰ·append-left, Memᴰ·append-right}
-use mathlib.Core.Bool.{Bool, true, false, cond, _&&_}
-use Rattle.rules.specs.Lists.{_∈_}
+use mathlib.Core.Bool.{Bool, true, cond, not, _&&_}
+use mathlib.Core.Option.{Option, none, some}
+use Rattle.rules.specs.declared.Refusal.{Refusal}
+use Rattle.rules.specs.declared.Refusal.the-variants.{Repeated, Foreign, Absent}
+use Rattle.rules.specs.declared.Judged.{Judged}
+use Rattle.rules.specs.declared.Judged.the-variants.{Agrees, Deviates, Refused}
+use Rattle.rules.specs.Answers.{numberOf}
+use Rattle.rules.specs.Lists.{_∈_, placed}
 use Rattle.rules.specs.Words.{Word, same}
-use Rattle.rules.specs.Files.{SheetRecord}
-use Rattle.theory.specs.Lists.{outcome, some-injective, Rising, At, at-in, in-at}
+use Rattle.rules.specs.Machines.{answer}
+use Rattle.rules.specs.Files.{DossierData, SheetRecord, golden}
+use Rattle.theory.specs.Lists.{outcome, some-injective, first-same, of-placed, Rising, at-in, in-at}
 use Rattle.theory.specs.Words.{both, same-true, same-refl}
-use Rattle.theory.specs.Pairing.{EarlierRecord, NoneRepeated}
+use Rattle.rules.specs.Operations.{Outcome, fine, refuse, answered, _>>_, readDossier, readSheet, check, firstDifference, pair, recordedFor, deviating, judge, deviatingOf, judgement, judgeAnswer, Part, noPart, deviatingPart, judgedPart}
+use Rattle.theory.specs.Check.{check-accepts}
+use Rattle.theory.specs.Judge.{recorded-for}
+use Rattle.theory.specs.Steps.{unlike-found}
+use Rattle.theory.specs.Outcomes.{settled}
+use Rattle.theory.specs.Pairing.{RecordOf, NoneRepeated, NoneForeign, FirstAbsent, Belongs, PairRefuses, twelve, thirteen, fourteen, repeated-somewhere, foreign-somewhere, pair-refuses, pair-fine}
 
 -- whether two records have the same word and the same answer
 abbrev sameRecord : SheetRecord → SheetRecord → Bool
@@ -52,7 +64,7 @@ in-times {r} (List·Memᴰ·tail {x = e} m) =
 pub reordered-in : (rs ts : List SheetRecord) → Reordered rs ts → {r : SheetRecord} → r ∈ rs → r ∈ ts
 reordered-in rs ts h {r} m = times-in r ts (omega (arith, h r, in-times m))
 
-times-append : (r : SheetRecord) (a b : List SheetRecord) → times r (a ++ b) ≡ times r a + times r b
+pub times-append : (r : SheetRecord) (a b : List SheetRecord) → times r (a ++ b) ≡ times r a + times r b
 times-append r [] b = omega arith
 times-append r (e ∷ a) b =
     let ih = times-append r a b in
@@ -120,3 +132,119 @@ once-rising (s ∷ rs) once = (
 -- Whether words are repeated does not depend on the order.
 pub reordered-once : (rs ts : List SheetRecord) → Reordered rs ts → NoneRepeated rs → NoneRepeated ts
 reordered-once rs ts h once = rising-once ts (rising-reordered rs ts h (once-rising rs once))
+
+-- the same number, and for ABSENT the same place
+abbrev pub SameRefusal : Refusal → Refusal → Type 0
+SameRefusal r s = (numberOf r ≡ numberOf s) × ((i : ℕ) → r ≡ Absent i → s ≡ Absent i)
+
+-- the same verdict, test and step, or refusals alike
+abbrev pub SameVerdict : Judged → Judged → Type 0
+SameVerdict Agrees v = v ≡ Agrees
+SameVerdict (Deviates i j) v = v ≡ Deviates i j
+SameVerdict (Refused r) v = (s : Refusal) × (v ≡ Refused s) × SameRefusal r s
+
+same-verdict : (v : Judged) → SameVerdict v v
+same-verdict Agrees = refl
+same-verdict (Deviates i j) = refl
+same-verdict (Refused r) = (r, refl, (refl, λ i e. e))
+
+-- what two sheets' pairings have in common
+abbrev PairedAlike : List Word → List SheetRecord → List SheetRecord → Outcome (Unit {0}) → Type 0
+PairedAlike tests rs ts (fine x) = Belongs tests ts × (pair tests ts ≡ fine tt)
+PairedAlike tests rs ts (refuse r) = (s : Refusal) × (pair tests ts ≡ refuse s) × SameRefusal r s
+
+module _ (tests : List Word) (rs ts : List SheetRecord) (reordered : Reordered rs ts) where
+  back : Reordered ts rs
+  back r = sym (reordered r)
+
+  over : {r : SheetRecord} → r ∈ rs → r ∈ ts
+  over = reordered-in rs ts reordered
+
+  record-over : {w : Word} → RecordOf rs w → RecordOf ts w
+  record-over (r, m, is) = (r, over m, is)
+
+  record-back : {w : Word} → RecordOf ts w → RecordOf rs w
+  record-back (r, m, is) = (r, reordered-in ts rs back m, is)
+
+  once-over : NoneRepeated rs → NoneRepeated ts
+  once-over = reordered-once rs ts reordered
+
+  known-over : NoneForeign tests rs → NoneForeign tests ts
+  known-over known r m = known r (reordered-in ts rs back m)
+
+  belongs-over : Belongs tests rs → Belongs tests ts
+  belongs-over b = record { once = once-over (b .once); known = known-over (b .known); whole = λ t m. record-over (b .whole t m) }
+
+  refused : (r : Refusal) → PairRefuses tests rs r → (s : Refusal) × (pair tests ts ≡ refuse s) × SameRefusal r s
+  refused r (twelve i f is) =
+      let (j, g) = repeated-somewhere tests ts (λ once. reordered-once ts rs back once i (f .this) (f .here) (f .repeats)) in
+      (Repeated j, pair-refuses tests ts (Repeated j) .1 (twelve j g refl), (rw is, λ k e. absurd (omega (arith, ap numberOf (sym is ∙ e)))))
+  refused r (thirteen once i f is) =
+      let (j, g) = foreign-somewhere tests ts (λ known. f .foreign (known (f .this) (over (at-in rs i (f .here))))) in
+      (Foreign j, pair-refuses tests ts (Foreign j) .1 (thirteen (once-over once) j g refl), (rw is, λ k e. absurd (omega (arith, ap numberOf (sym is ∙ e)))))
+  refused r (fourteen once known i f is) =
+      let g : FirstAbsent tests ts i =
+      record { test = f .test; here = f .here; absent = λ h. f .absent (record-back h); earlier = λ j t less at. record-over (f .earlier j t less at) } in
+      (Absent i, pair-refuses tests ts (Absent i) .1 (fourteen (once-over once) (known-over known) i g refl), (rw is, λ k e. sym is ∙ e))
+
+  paired-alike : PairedAlike tests rs ts (pair tests rs)
+  paired-alike =
+      elim (settled (pair tests rs)) [
+        | inl (x, e) ↦ rw e (let b = belongs-over (pair-fine tests rs .0 e) in (b, pair-fine tests ts .1 b))
+        | inr (r, e) ↦ rw e (refused r (pair-refuses tests rs r .0 e))
+      ]
+
+module _ (d : DossierData) (rs ts : List SheetRecord) (reordered : Reordered rs ts) (one : Belongs (d .tests) rs) (two : Belongs (d .tests) ts) where
+  recorded-same : (t : Word) → t ∈ d .tests → recordedFor rs t ≡ recordedFor ts t
+  recorded-same t m =
+      let (r, n, is) = one .whole t m in
+      let first : recordedFor rs t ≡ r .recorded = ap (recordedFor rs) (sym is) ∙ recorded-for rs (one .once) r n in
+      let second : recordedFor ts t ≡ r .recorded = ap (recordedFor ts) (sym is) ∙ recorded-for ts (two .once) r (reordered-in rs ts reordered n) in
+      first ∙ sym second
+
+  deviating-same : deviating (golden d) rs (d .tests) ≡ deviating (golden d) ts (d .tests)
+  deviating-same =
+      first-same _ _ (placed (d .tests))
+      (λ (i, t) m. ap (λ (a : List ℕ). not (same (answer (golden d) t) a)) (recorded-same t (at-in (d .tests) i (of-placed (d .tests) m))))
+
+  judgement-same : (o : Option (ℕ × Word)) → deviating (golden d) ts (d .tests) ≡ o → judgement (record { dossier = d; records = rs }) o ≡ judgement (record { dossier = d; records = ts }) o
+  judgement-same none e = refl
+  judgement-same (some (i, t)) e =
+      let u = unlike-found (answer (golden d)) (recordedFor ts) (d .tests) e in
+      ap (λ (a : List ℕ). Deviates i (firstDifference (answer (golden d) t) a)) (recorded-same t (at-in (d .tests) i (u .here)))
+
+-- what the judge says of a sheet's records once they are read and paired, and the part that it hands back
+abbrev pairedAnswer : DossierData → List SheetRecord → Judged
+pairedAnswer d rs = answered (_>>_ (pair (d .tests) rs) (fine (record { dossier = d; records = rs }))) (λ p. judgement p (deviatingOf p)) Refused
+
+abbrev pairedPart : DossierData → List SheetRecord → Part
+pairedPart d rs =
+    answered (_>>_ (pair (d .tests) rs) (fine (record { dossier = d; records = rs }))) (λ p. deviatingPart (p .dossier) (deviatingOf p)) (λ r. noPart)
+
+paired-same : (d : DossierData) (rs ts : List SheetRecord) → Reordered rs ts → SameVerdict (pairedAnswer d rs) (pairedAnswer d ts) × (pairedPart d rs ≡ pairedPart d ts)
+paired-same d rs ts reordered =
+    elim (settled (pair (d .tests) rs)) [
+      | inr (r, e) ↦
+          let (s, e′, alike) = rw e at (paired-alike (d .tests) rs ts reordered) in
+          rw (e, e′) ((s, refl, alike), refl)
+      | inl (x, e) ↦
+          let (b, e′) = rw e at (paired-alike (d .tests) rs ts reordered) in
+          let a = pair-fine (d .tests) rs .0 e in
+          let found = deviating (golden d) ts (d .tests) in
+          rw (e, e′, deviating-same d rs ts reordered a b, judgement-same d rs ts reordered a b found refl)
+          (same-verdict (judgement (record { dossier = d; records = ts }) found), refl)
+    ]
+
+-- Any two sheets that read well under the dossier's k and hold the same records, each equally often: the judge gives the same
+-- verdict, test, step and part, or a refusal of the same number, and for ABSENT of the same place.
+pub order-does-not-matter : (dossierFile one two : List ℕ) (rs ts : List SheetRecord)
+    → ((d : DossierData) → readDossier dossierFile ≡ fine d → (readSheet (d .inputs) one ≡ fine rs) × (readSheet (d .inputs) two ≡ fine ts))
+    → Reordered rs ts → SameVerdict (judgeAnswer dossierFile one) (judgeAnswer dossierFile two) × (judgedPart dossierFile one ≡ judgedPart dossierFile two)
+unfolding judge
+order-does-not-matter dossierFile one two rs ts read reordered =
+    elim (settled (check dossierFile)) [
+      | inr (r, e) ↦ rw e ((r, refl, (refl, λ i h. h)), refl)
+      | inl (d, e) ↦
+          let (one-reads, two-reads) = read d (check-accepts dossierFile d .0 e .0) in
+          rw (e, one-reads, two-reads) (paired-same d rs ts reordered)
+    ]

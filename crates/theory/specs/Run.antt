@@ -1,10 +1,8 @@
 -- Document 01, "Run" and "Cost": each answer is given exactly when its sentence holds and nothing earlier does.
 use Prim.Native.Nat.{ℕ, _≤_, _<_}
-use mathlib.Core.Path.{_≡_, refl, sym, _∙_, ap}
-use mathlib.Core.Logic.{_↔_, _≢_, _⊎_, inl, inr}
+use mathlib.Core.Path.{_≡_, refl}
+use mathlib.Core.Logic.{_↔_, _≢_, inl, inr}
 use mathlib.Core.List.{List, map}
-use mathlib.Core.Option.{none, some}
-use mathlib.Core.Bool.{Bool, true, false}
 use borrow.Author.Tests.{eqb-true, eqb-false, eq-eqb, ne-eqb, leb-true, leb-false, le-leb, lt-leb}
 use lib.Dec.{eqb, leb}
 use lib.ListN.{length}
@@ -18,7 +16,7 @@ use Rattle.rules.specs.Lists.{_∈_, sum}
 use Rattle.rules.specs.Words.{Word}
 use Rattle.rules.specs.Machines.{answer}
 use Rattle.rules.specs.Files.{DossierData, UnitData, golden, unit, bound}
-use Rattle.rules.specs.Operations.{Outcome, fine, refuse, readDossier, readUnit, check, Trial, run, failingOf, firstDifference, verdict, runAnswer, costAnswer}
+use Rattle.rules.specs.Operations.{fine, refuse, readDossier, readUnit, check, Trial, run, failingOf, runAnswer, costAnswer}
 use Rattle.theory.specs.Lists.{outcome, optional}
 use Rattle.theory.specs.Outcomes.{settled, Settles}
 use Rattle.theory.specs.Check.{Accepts, CheckRefuses, check-accepts, check-refuses}

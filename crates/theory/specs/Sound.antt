@@ -1,13 +1,12 @@
 -- Document 01, refusals 7 to 10: what each one says of a dossier that is well formed, and that it is given exactly when that
 -- holds and nothing earlier does.
-use Prim.Native.Nat.{ℕ, suc, _+_, _-_, _≤_, _<_}
+use Prim.Native.Nat.{ℕ, suc, _-_, _≤_, _<_}
 use native.Mathlib.Omega.{arith}
-use native.Mathlib.Decide.{decLt}
-use mathlib.Core.Path.{_≡_, refl, sym, _∙_}
+use mathlib.Core.Path.{_≡_, refl}
 use mathlib.Core.Logic.{_↔_, _≢_, _⊎_, inl, inr}
-use mathlib.Core.List.{List, [], _∷_, map, flatMap, List·Memᴰ·head, List·Memᴰ·tail, Memᴰ·map, Memᴰ·of-map}
+use mathlib.Core.List.{List, [], _∷_, List·Memᴰ·head, List·Memᴰ·tail, Memᴰ·map, Memᴰ·of-map}
 use mathlib.Core.Bool.{Bool, true, false, not}
-use mathlib.Core.Option.{Option, none, some}
+use mathlib.Core.Option.{none, some}
 use borrow.Author.Tests.{eqb-true, eqb-false, eq-eqb, ne-eqb, not-true, not-false, ltb-true, ltb-false, lt-ltb}
 use lib.Dec.{ltb, eqb}
 use lib.ListN.{length}
@@ -19,10 +18,10 @@ use Rattle.rules.specs.Machines.{after, answerFrom}
 use Rattle.rules.specs.Files.{DossierData, golden}
 use Rattle.rules.specs.Needed.{unreached, pairs, unseparated}
 use Rattle.rules.specs.Answers.{goldenState}
-use Rattle.rules.specs.Operations.{Outcome, fine, refuse, sound}
-use Rattle.theory.specs.Lists.{outcome, optional, clash, any-true, any-of, any-false, none-any, all-true, all-of, all-false, first-none, none-first, Rising, OneWay, Least, first-least, least-first, in-numbers, of-numbers, numbers-rising, map-rising, flatMap-rising, in-flatMap, of-flatMap}
+use Rattle.rules.specs.Operations.{fine, refuse, sound}
+use Rattle.theory.specs.Lists.{outcome, optional, clash, any-true, any-of, any-false, none-any, all-true, all-of, all-false, first-none, none-first, Rising, OneWay, first-least, least-first, in-numbers, of-numbers, numbers-rising, map-rising, flatMap-rising, in-flatMap, of-flatMap}
 use Rattle.theory.specs.Outcomes.{Settles}
-use Rattle.theory.specs.Words.{same-true, same-refl, same-false, differ-same, in-isIn, isIn-in}
+use Rattle.theory.specs.Words.{same-true, same-refl, same-false, in-isIn, isIn-in}
 
 -- a pair before another: by the first number, then by the second
 abbrev LowerPair : ℕ × ℕ → ℕ × ℕ → Type 0

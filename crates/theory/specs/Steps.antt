@@ -4,16 +4,16 @@ use Prim.Native.Nat.{ℕ, zero, suc, _<_}
 use native.Mathlib.Omega.{arith}
 use native.Mathlib.Decide.{ℕ-discrete, decLt}
 use mathlib.Core.Path.{_≡_, refl, sym, ap}
-use mathlib.Core.Logic.{_≢_, inl, inr}
+use mathlib.Core.Logic.{_≢_}
 use mathlib.Core.List.{List, [], _∷_}
-use mathlib.Core.Bool.{Bool, true, false, not}
+use mathlib.Core.Bool.{Bool, false, not}
 use mathlib.Core.Option.{none, some}
 use borrow.Author.Tests.{eq-eqb, ne-eqb, not-true, not-false}
 use lib.ListN.{getElem?}
 use Rattle.rules.specs.Lists.{_∈_, placed, first}
 use Rattle.rules.specs.Words.{Word, same}
 use Rattle.rules.specs.Operations.{firstDifference}
-use Rattle.theory.specs.Lists.{At, in-at, at-in, some-injective, none-not-some, FirstAt, found-at, at-found, none-at, at-none}
+use Rattle.theory.specs.Lists.{At, in-at, at-in, some-injective, none-not-some, found-at, at-found, none-at, at-none}
 use Rattle.theory.specs.Words.{same-true, same-refl, same-false, differ-same}
 
 -- two answers differ at step j and at no earlier one

@@ -1,12 +1,12 @@
 -- Laws of words: when the tests of the rules say `true`.
 use Prim.Native.Nat.{ℕ}
-use mathlib.Core.Path.{_≡_, refl, sym, ap}
-use mathlib.Core.Logic.{_↔_, _≢_, inl, inr}
+use mathlib.Core.Path.{_≡_, refl, sym}
+use mathlib.Core.Logic.{_≢_, inl, inr}
 use mathlib.Core.List.{List, [], _∷_, _++_, nil≢cons}
 use mathlib.Core.Bool.{Bool, true, false, _&&_, false≢true}
-use borrow.Author.Tests.{eqb-true, eqb-false, eq-eqb}
+use borrow.Author.Tests.{eqb-true, eq-eqb}
 use lib.Dec.{eqb}
-use Rattle.rules.specs.Lists.{_∈_, any}
+use Rattle.rules.specs.Lists.{_∈_}
 use Rattle.rules.specs.Words.{Word, Valid, same, Begins, begins, isIn}
 use Rattle.theory.specs.Lists.{outcome, clash, any-true, any-of}
 

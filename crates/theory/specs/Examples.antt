@@ -1,0 +1,99 @@
+-- The premises of the theorems can be met: each theorem at document 01's worked pieces. `built2` and `built3` are the built dossiers
+-- of G for m = 2 and m = 3, `unitV` is the unit V, and `sheet2` the sheet for m = 2.
+use Prim.Native.Nat.{ℕ}
+use native.Mathlib.Nat.{add-comm}
+use native.Mathlib.Omega.{arith}
+use lib.ListN.{take, drop}
+use mathlib.Core.Path.{_≡_, refl, sym, _∙_}
+use mathlib.Core.Logic.{_↔_, _≢_}
+use mathlib.Core.List.{List, [], _∷_}
+use Rattle.rules.specs.declared.Ran.the-variants.{Passes}
+use Rattle.rules.specs.declared.Compared.the-variants.{Equal as Alike}
+use Rattle.rules.specs.declared.Judged.the-variants.{Agrees}
+use Rattle.rules.specs.Words.{Word, Valid, same}
+use Rattle.rules.specs.Machines.{answer}
+use Rattle.rules.specs.Files.{DossierData, SheetRecord, golden, unit}
+use Rattle.rules.specs.Operations.{fine, readDossier, readSheet, runAnswer, compareAnswer, judgeAnswer, judgedPart}
+use Rattle.rules.specs.Starred.{built2, built3, unitV, sheet2, sheet2′, sheetV, dataG2, dataG3, dataV, records2, records2′, recordsV, starred}
+use Rattle.theory.specs.Lists.{At, all-true}
+use Rattle.theory.specs.Words.{same-true}
+use Rattle.theory.specs.Reordering.{times, times-append, SameVerdict, order-does-not-matter}
+use Rattle.theory.specs.Sized.{SizedDossier}
+use Rattle.theory.specs.Machines.{golden-complete}
+use Rattle.theory.specs.Files.{dossier-sized, unit-sized}
+use Rattle.theory.specs.Judge.{AllGolden, judge-exactly}
+use Rattle.theory.specs.Compare.{Equal}
+use Rattle.theory.specs.Pairing.{Belongs}
+use Rattle.theory.specs.Outcomes.{fine-injective}
+use Rattle.theory.specs.Demands.{Covered, SheetOf, tests-settle-every-word, equal-exactly, passes-exactly-when-equal, agreeing-sheet-settles, deviating-sheet-tells, equal-machine-agrees}
+
+-- the sheet with the golden's answers
+abbrev trueSheet : List ℕ
+trueSheet = sheet2 (0 ∷ 1 ∷ 0 ∷ []) (0 ∷ 0 ∷ 1 ∷ [])
+
+sized-2 : SizedDossier dataG2
+sized-2 = dossier-sized built2 dataG2 (starred .reads-2)
+
+sized-3 : SizedDossier dataG3
+sized-3 = dossier-sized built3 dataG3 (starred .reads-3)
+
+-- G itself is a machine that its dossiers speak of,
+covered-2 : Covered dataG2 (golden dataG2)
+covered-2 = record { whole = golden-complete (sized-2 .golden); few = omega arith }
+
+-- and V is one that the dossier for m = 3 speaks of.
+covered-V : Covered dataG3 (unit dataV)
+covered-V = record { whole = golden-complete (unit-sized unitV dataV (starred .unit-reads) .machine); few = omega arith }
+
+-- Complete, at the dossier for m = 2 and G itself.
+complete-example : (w : Word) → Valid 2 w → answer (golden dataG2) w ≡ answer (golden dataG2) w
+complete-example = tests-settle-every-word built2 dataG2 (starred .accepted-2) (starred .reads-2) (golden dataG2) covered-2 (λ t m. refl)
+
+-- Passes exactly when equal, at the dossier for m = 3 and V, which fails and differs.
+passes-example : ((n : ℕ) × (runAnswer built3 unitV ≡ Passes n)) ↔ (compareAnswer built3 unitV [] ≡ Alike)
+passes-example =
+    passes-exactly-when-equal built3 unitV [] dataG3 dataV (starred .accepted-3) (starred .reads-3) (starred .unit-reads) refl (covered-V .few)
+
+-- Equal exactly when alike on every word, at the same two.
+equal-example : (compareAnswer built3 unitV [] ≡ Alike) ↔ Equal 2 (golden dataG3) (unit dataV)
+equal-example = equal-exactly built3 unitV [] dataG3 dataV (starred .reads-3) (starred .unit-reads) refl
+
+-- the true sheet belongs to the dossier for m = 2 and is G's
+true-sheet : Belongs (dataG2 .tests) records2 × SheetOf (golden dataG2) records2
+true-sheet =
+    let (d, rs, fits, all) = judge-exactly built2 trueSheet Agrees .0 (starred .agrees-2) in
+    at d rs (fine-injective (sym (fits .accepted .0) ∙ starred .reads-2)) (fits .reads) (fits .belongs) all
+  where
+    at : (d : DossierData) (rs : List SheetRecord) → d ≡ dataG2 → readSheet (d .inputs) trueSheet ≡ fine rs → Belongs (d .tests) rs → AllGolden d rs
+        → Belongs (dataG2 .tests) records2 × SheetOf (golden dataG2) records2
+    at d rs d-is reads belongs all =
+        let rs-is : rs ≡ records2 = fine-injective (sym (rw d-is at reads) ∙ starred .sheet-reads) in
+        (rw (d-is, rs-is) at belongs, rw (d-is, rs-is) at all)
+
+-- An agreeing sheet settles every word, at the true sheet and G.
+agreeing-example : (w : Word) → Valid 2 w → answer (golden dataG2) w ≡ answer (golden dataG2) w
+agreeing-example =
+    agreeing-sheet-settles built2 trueSheet dataG2 records2 (starred .agrees-2) (starred .reads-2) (starred .sheet-reads) (golden dataG2) covered-2 (true-sheet .1)
+
+-- An equal machine's sheet agrees, at the same two.
+equal-machine-example : judgeAnswer built2 trueSheet ≡ Agrees
+equal-machine-example =
+    equal-machine-agrees built2 trueSheet dataG2 records2 (starred .accepted-2) (starred .reads-2) (starred .sheet-reads) (true-sheet .0) (golden dataG2) (true-sheet .1) (λ w valid. refl)
+
+-- A deviating sheet tells its machine from the golden, at V's sheet.
+deviating-example : (t : Word) × At (dataG3 .tests) 1 t × (answer (unit dataV) t ≢ answer (golden dataG3) t)
+deviating-example =
+    deviating-sheet-tells built3 sheetV dataG3 recordsV 1 2 (starred .deviates-V) (starred .reads-3) (starred .sheet-reads-V) (unit dataV)
+    (λ r m. same-true _ _ (all-true (λ (e : SheetRecord). same (answer (unit dataV) (e .word)) (e .recorded)) {l = recordsV} refl m))
+
+-- Order does not matter, at the sheet for m = 2 and another order of its records.
+order-example : SameVerdict (judgeAnswer built2 trueSheet) (judgeAnswer built2 sheet2′) × (judgedPart built2 trueSheet ≡ judgedPart built2 sheet2′)
+order-example = order-does-not-matter built2 trueSheet sheet2′ records2 records2′ both-read (λ r. each r)
+  where
+    both-read : (d : DossierData) → readDossier built2 ≡ fine d → (readSheet (d .inputs) trueSheet ≡ fine records2) × (readSheet (d .inputs) sheet2′ ≡ fine records2′)
+    both-read d reads =
+        let is : dataG2 ≡ d = fine-injective (sym (starred .reads-2) ∙ reads) in
+        rw (← is) (starred .sheet-reads, starred .sheet-reads′)
+
+    each : (r : SheetRecord) → times r records2 ≡ times r records2′
+    each r = times-append r (take 2 records2) (drop 2 records2) ∙ add-comm _ _ ∙ sym (times-append r (take 1 records2′) (drop 1 records2′))
