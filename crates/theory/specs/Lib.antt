@@ -32,3 +32,4 @@ pub mod Build
 pub mod Demands
 pub mod Writes
 pub mod Examples
+pub mod Bounds
