@@ -6,14 +6,29 @@ use crate::files::Dossier;
 use crate::machine::{GoldenState, Input, Machine, Word};
 use crate::sizes::{LONGEST_TEST, MOST_EXTRA_STATES, MOST_STATES};
 
+/// The throws of the dice for a dossier that is not at a limit.
+const PLAIN: usize = 38;
+
 /// A dossier before any damage to its bytes.
 pub fn draft(dice: &mut Dice) -> Dossier {
-    match dice.below(40) {
+    match dice.below(PLAIN + 2) {
+        throw @ 0..PLAIN => thrown(dice, throw),
+        _ => limits::draft(dice),
+    }
+}
+
+/// One that is not at a limit: many of these are short.
+pub fn plain_draft(dice: &mut Dice) -> Dossier {
+    let throw = dice.below(PLAIN);
+    thrown(dice, throw)
+}
+
+fn thrown(dice: &mut Dice, throw: usize) -> Dossier {
+    match throw {
         0..=20 => accepted(dice),
         21..=26 => with_weak_tests(dice),
         27..=32 => with_wrong_words(dice),
-        33..=37 => wild(dice),
-        _ => limits::draft(dice),
+        _ => wild(dice),
     }
 }
 

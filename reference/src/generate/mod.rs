@@ -6,16 +6,18 @@
 mod damage;
 mod dice;
 mod dossiers;
+mod edges;
 mod limits;
 mod machines;
 mod sheets;
 mod units;
 
 pub use dice::Dice;
+pub use edges::edges;
 
 use crate::build::built_bytes;
 use crate::compare::compared;
-use crate::files::{write_dossier, write_sheet, write_unit};
+use crate::files::{write_dossier, write_sheet, write_unit, Dossier};
 use crate::sizes::{MOST_DOSSIER_BYTES, MOST_SHEET_BYTES};
 
 /// One file of each sort and the length of an output; what each operation is to be tried on.
@@ -36,13 +38,24 @@ pub fn cases(seed: u64, count: u64) -> impl Iterator<Item = Case> {
 pub fn case(seed: u64, number: u64) -> Case {
     let mut dice = Dice::new(seed, number);
     let draft = dossiers::draft(&mut dice);
-    let unit = write_unit(&units::unit_for(&mut dice, &draft));
-    let sheet = write_sheet(&sheets::sheet_for(&mut dice, &draft));
+    case_of(&mut dice, draft)
+}
+
+/// One case of a seed whose dossier is not at a limit: in many of these all files are short.
+pub fn plain_case(seed: u64, number: u64) -> Case {
+    let mut dice = Dice::new(seed, number);
+    let draft = dossiers::plain_draft(&mut dice);
+    case_of(&mut dice, draft)
+}
+
+fn case_of(dice: &mut Dice, draft: Dossier) -> Case {
+    let unit = write_unit(&units::unit_for(dice, &draft));
+    let sheet = write_sheet(&sheets::sheet_for(dice, &draft));
     let dossier = write_dossier(&draft);
-    let dossier = sometimes_damaged(&mut dice, 6, dossier, MOST_DOSSIER_BYTES);
-    let unit = sometimes_damaged(&mut dice, 5, unit, MOST_DOSSIER_BYTES);
-    let sheet = sometimes_damaged(&mut dice, 5, sheet, MOST_SHEET_BYTES);
-    let output_length = output_length(&mut dice, &dossier, &unit);
+    let dossier = sometimes_damaged(dice, 6, dossier, MOST_DOSSIER_BYTES);
+    let unit = sometimes_damaged(dice, 5, unit, MOST_DOSSIER_BYTES);
+    let sheet = sometimes_damaged(dice, 5, sheet, MOST_SHEET_BYTES);
+    let output_length = output_length(dice, &dossier, &unit);
     Case {
         dossier,
         unit,

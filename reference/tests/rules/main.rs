@@ -7,4 +7,5 @@ mod packing;
 mod program;
 mod properties;
 mod readings;
+mod rows;
 mod worked_pieces;

@@ -9,13 +9,13 @@ use reference::cost::{cost, Cost};
 use reference::files::{
     read_dossier, read_sheet, read_unit, write_dossier, write_sheet, write_unit, Dossier,
 };
-use reference::generate::{cases, Case, Dice};
+use reference::generate::{cases, edges, Case, Dice};
 use reference::judge::{judge, JudgeAnswer};
 use reference::line::run_line;
 use reference::machine::Word;
 use reference::refusal::{File, Refusal};
 use reference::run::{run, RunAnswer};
-use std::collections::{BTreeMap, BTreeSet};
+use std::collections::{BTreeMap, BTreeSet, HashSet};
 
 /// Catches a generator that a fault could not be found with again.
 #[test]
@@ -25,6 +25,31 @@ fn the_same_seed_gives_the_same_cases() {
     let other: Vec<Case> = cases(302, 200).collect();
     assert!(once == again);
     assert!(once != other);
+}
+
+/// Catches edges that stand on one side of their limits only: each is CUT SHORT at its end, or has
+/// a fault before that, and every fault that a short file can end with is met.
+#[test]
+fn each_edge_is_cut_short_or_has_a_fault() {
+    let mut met = HashSet::new();
+    for edge in edges() {
+        let unit = run(&edge.dossier, &edge.unit).unwrap_err();
+        let sheet = judge(&edge.dossier, &edge.sheet).unwrap_err();
+        for refusal in [unit, sheet] {
+            let place = refusal.place().unwrap();
+            let length = match place.file {
+                File::Unit => edge.unit.len(),
+                File::Sheet => edge.sheet.len(),
+                _ => edge.dossier.len(),
+            };
+            assert_eq!(refusal.number() == 2, place.byte == length);
+            met.insert((place.file, refusal.number()));
+        }
+    }
+    let dossier = [2, 3, 4, 5].map(|number| (File::Dossier, number));
+    let unit = [2, 3, 4].map(|number| (File::Unit, number));
+    let sheet = [2, 5].map(|number| (File::Sheet, number));
+    assert_eq!(met, dossier.into_iter().chain(unit).chain(sheet).collect());
 }
 
 /// Catches a builder whose tests are too few, too many, in another order or that touches the rest,

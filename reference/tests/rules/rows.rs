@@ -1,0 +1,47 @@
+//! The program that prints rows: what it prints for a seed, and its exit status.
+
+use std::process::{Command, Output};
+
+fn rows(arguments: &[&str]) -> Output {
+    Command::new(env!("CARGO_BIN_EXE_rows"))
+        .args(arguments)
+        .output()
+        .unwrap()
+}
+
+/// Catches rows that could not be found again.
+#[test]
+fn the_same_seed_gives_the_same_rows() {
+    let once = rows(&["1", "1"]);
+    assert_eq!(once.status.code(), Some(0));
+    assert!(once.stderr.is_empty());
+    assert!(once.stdout == rows(&["1", "1"]).stdout);
+    assert!(once.stdout != rows(&["2", "1"]).stdout);
+}
+
+/// Catches rows of one operation or one kind of answer only.
+#[test]
+fn each_kind_of_answer_has_its_rows() {
+    let module = String::from_utf8(rows(&["1", "2"]).stdout).unwrap();
+    let times = |operation: &str, answer: &str| {
+        let of_operation = module.lines().filter(|line| line.starts_with(operation));
+        of_operation.filter(|line| line.contains(answer)).count()
+    };
+    for operation in ["check", "build", "run", "compare", "judge", "cost"] {
+        assert!(times(&format!("  pub {operation}-"), "(says 0 0 ") >= 2);
+        assert!(times(&format!("  pub {operation}-"), "(says 6 1 ") >= 2);
+    }
+    for (operation, answer) in [("run", "16 2"), ("build", "17 4"), ("judge", "14 3")] {
+        assert!(times(&format!("  pub {operation}-"), &format!("(says {answer} ")) >= 2);
+    }
+}
+
+#[test]
+fn wrong_usage_is_told() {
+    for arguments in [&[][..], &["1"], &["1", "x"], &["1", "1", "1"]] {
+        let output = rows(arguments);
+        assert_eq!(output.status.code(), Some(2));
+        assert!(output.stdout.is_empty());
+        assert!(String::from_utf8_lossy(&output.stderr).starts_with("usage: rows SEED COUNT"));
+    }
+}
