@@ -1,0 +1,5 @@
+pub mod Laws
+pub mod Parts
+pub mod Joined
+pub mod Bridge
+pub mod Held

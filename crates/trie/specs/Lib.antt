@@ -1,0 +1,8 @@
+pub mod Model
+pub mod Holds
+pub mod Grow
+pub mod Words
+pub mod Values
+pub mod Visits
+pub mod Maximal
+pub mod Sizes

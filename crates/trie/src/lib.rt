@@ -1,0 +1,407 @@
+// Words in a trie: three arrays that the caller lends, with an entry for each node. Node 0 is the root, the empty word. A
+// node has its label, its newest child and its next older sibling, 0 for none. Other arrays hold numbers or marks by node.
+
+ghost use mathlib.Core.Path.{_≡_};
+ghost use Prim.Native.Nat.{ℕ, _+_, _≤_, _<_};
+ghost use mathlib.Core.List.{List, [], _∷_};
+ghost use lib.ListN.{length, take};
+ghost use lib.Seq.{paste};
+ghost use Rattle.rules.specs.Lists.{any};
+ghost use Rattle.rules.specs.Words.{Word, begins, isIn};
+ghost use Rattle.trie.specs.Model.{Trie, root, grow, size, childIn, wordOf, walkFrom, holding, Proper};
+ghost use Rattle.trie.specs.Holds.{Holds, Node, Counted, StepOf, InsertOf};
+ghost use Rattle.trie.specs.Values.{Map, empty, put, valueOf, marksOf, Noted, PutOf};
+ghost use Rattle.trie.specs.Visits.{leaves, maximal, bytesOf, WroteOf, MeasureOf, Visiting, Deep};
+
+// The node that a walk reaches, or none.
+pub enum Walked {
+    At(usize),
+    Off,
+}
+
+// The node of a step, and how many nodes there are then; or no room.
+pub enum Stepped {
+    To(usize, usize),
+    Full,
+}
+
+// The node of a word's end, and how many nodes there are then; or no room.
+pub enum Inserted {
+    Put(usize, usize),
+    Full,
+}
+
+// The place behind what was written; or no room.
+pub enum Visited {
+    Done(usize),
+    Full,
+}
+
+// How many words there are and the place behind them; or more than the room.
+pub enum Measured {
+    Fits(usize, usize),
+    Over,
+}
+
+fn wide(x: u16) -> usize
+    ensures { λ r. ⌜ r ≡ x ⌝ }
+{
+    x as usize
+}
+
+// The empty trie: one node, the root.
+pub fn start(label: &mut [u8], first: &mut [u16], next: &mut [u16]) -> usize
+    requires { ⌜ (0 < length (now label)) × (length (now label) ≤ 65536) ⌝ }
+    requires { ⌜ (length (now first) ≡ length (now label)) × (length (now next) ≡ length (now label)) ⌝ }
+    ensures { λ r. ⌜ (r ≡ 1) × Holds root (now (label .exit)) (now (first .exit)) (now (next .exit)) ⌝ }
+{
+    label[0] = 0;
+    first[0] = 0;
+    next[0] = 0;
+    1
+}
+
+// The node under p with the label a, or 0.
+pub fn child(label: &[u8], first: &[u16], next: &[u16], p: usize, a: u8) -> usize
+    requires { ⌜ Node (now label) (now first) (now next) p ⌝ }
+    ensures { λ r. ⌜ ((t : Trie) → Holds t (now (label .entry)) (now (first .entry)) (now (next .entry)) → p < size t → r ≡ childIn t p a) ⌝ }
+{
+    let mut j = wide(first[p]);
+    while j != 0 {
+        if label[j] == a {
+            return j;
+        }
+        j = wide(next[j]);
+    }
+    0
+}
+
+// One node more, the node `count`, under p with the label a. The answer is the new count.
+fn add(
+    label: &mut [u8],
+    first: &mut [u16],
+    next: &mut [u16],
+    count: usize,
+    p: usize,
+    a: u8,
+) -> usize
+    requires { ⌜ Counted (now label) (now first) (now next) count ⌝ }
+    requires { ⌜ (p < count) × (count < length (now label)) ⌝ }
+    ensures { λ r. ⌜ (r ≡ count + 1) × ((t : Trie) → Holds t (now (label .entry)) (now (first .entry)) (now (next .entry)) → count ≡ size t → childIn t p a ≡ 0 → Holds (grow t p a) (now (label .exit)) (now (first .exit)) (now (next .exit))) ⌝ }
+{
+    label[count] = a;
+    next[count] = first[p];
+    first[p] = count as u16;
+    first[count] = 0;
+    count + 1
+}
+
+// From the node p along the word w.
+pub fn walk(label: &[u8], first: &[u16], next: &[u16], p: usize, w: &[u8]) -> Walked
+    requires { ⌜ Node (now label) (now first) (now next) p ⌝ }
+    ensures { λ r. ⌜ ((t : Trie) → Holds t (now (label .entry)) (now (first .entry)) (now (next .entry)) → p < size t → r ≡ walkFrom t p (now (w .entry))) ⌝ }
+{
+    let mut node = p;
+    let mut i = 0;
+    while i < w.len() {
+        let j = child(label, first, next, node, w[i]);
+        if j == 0 {
+            return Walked::Off;
+        }
+        node = j;
+        i += 1;
+    }
+    Walked::At(node)
+}
+
+// Whether the word w begins one of the words of the trie, which has at least one.
+pub fn begins_some(label: &[u8], first: &[u16], next: &[u16], w: &[u8]) -> bool
+    requires { ⌜ Node (now label) (now first) (now next) 0 ⌝ }
+    ensures { λ r. ⌜ ((v : Word) (ws : List Word) → Holds (holding (v ∷ ws)) (now (label .entry)) (now (first .entry)) (now (next .entry)) → r ≡ any (begins (now (w .entry))) (v ∷ ws)) ⌝ }
+{
+    match walk(label, first, next, 0, w) {
+        Walked::At(_) => true,
+        Walked::Off => false,
+    }
+}
+
+// The node under p with the label a, made if there is none.
+pub fn step(
+    label: &mut [u8],
+    first: &mut [u16],
+    next: &mut [u16],
+    count: usize,
+    p: usize,
+    a: u8,
+) -> Stepped
+    requires { ⌜ Counted (now label) (now first) (now next) count ⌝ }
+    requires { ⌜ p < count ⌝ }
+    ensures { λ r. ⌜ ((t : Trie) → Holds t (now (label .entry)) (now (first .entry)) (now (next .entry)) → count ≡ size t → StepOf t p a (now (label .exit)) (now (first .exit)) (now (next .exit)) r) ⌝ }
+{
+    let j = child(label, first, next, p, a);
+    if j != 0 {
+        return Stepped::To(j, count);
+    }
+    if count < label.len() {
+        let m = add(label, first, next, count, p, a);
+        return Stepped::To(count, m);
+    }
+    Stepped::Full
+}
+
+// The word w put in from the node p.
+pub fn insert_at(
+    label: &mut [u8],
+    first: &mut [u16],
+    next: &mut [u16],
+    count: usize,
+    p: usize,
+    w: &[u8],
+) -> Inserted
+    requires { ⌜ Counted (now label) (now first) (now next) count ⌝ }
+    requires { ⌜ p < count ⌝ }
+    ensures { λ r. ⌜ ((t : Trie) → Holds t (now (label .entry)) (now (first .entry)) (now (next .entry)) → count ≡ size t → InsertOf t p (now (w .entry)) (now (label .exit)) (now (first .exit)) (now (next .exit)) r) ⌝ }
+{
+    let mut node = p;
+    let mut m = count;
+    let mut i = 0;
+    while i < w.len() {
+        match step(label, first, next, m, node, w[i]) {
+            Stepped::To(j, k) => {
+                node = j;
+                m = k;
+            }
+            Stepped::Full => {
+                return Inserted::Full;
+            }
+        }
+        i += 1;
+    }
+    Inserted::Put(node, m)
+}
+
+// The word w put in from the root.
+pub fn insert(
+    label: &mut [u8],
+    first: &mut [u16],
+    next: &mut [u16],
+    count: usize,
+    w: &[u8],
+) -> Inserted
+    requires { ⌜ Counted (now label) (now first) (now next) count ⌝ }
+    ensures { λ r. ⌜ ((t : Trie) → Holds t (now (label .entry)) (now (first .entry)) (now (next .entry)) → count ≡ size t → InsertOf t 0 (now (w .entry)) (now (label .exit)) (now (first .exit)) (now (next .exit)) r) ⌝ }
+{
+    insert_at(label, first, next, count, 0, w)
+}
+
+// No numbers.
+pub fn clear_values(value: &mut [u32])
+    ensures { λ _. ⌜ ((t : Trie) → Noted t empty (now (value .exit))) ⌝ }
+{
+    let mut i = 0;
+    while i < value.len() {
+        value[i] = 0;
+        i += 1;
+    }
+}
+
+// The number v for the word of a node.
+pub fn note(value: &mut [u32], node: usize, v: u32)
+    requires { ⌜ node < length (now value) ⌝ }
+    ensures { λ _. ⌜ ((t : Trie) (m : Map) → Proper t → Noted t m (now (value .entry)) → node < size t → Noted t (put m (wordOf t node) v) (now (value .exit))) ⌝ }
+{
+    value[node] = v;
+}
+
+// The number of the word of a node, or 0.
+pub fn noted(value: &[u32], node: usize) -> u32
+    requires { ⌜ node < length (now value) ⌝ }
+    ensures { λ r. ⌜ ((t : Trie) (m : Map) → Noted t m (now (value .entry)) → node < size t → r ≡ valueOf m (wordOf t node)) ⌝ }
+{
+    value[node]
+}
+
+// The number v for the word w, which is put in.
+pub fn put(
+    label: &mut [u8],
+    first: &mut [u16],
+    next: &mut [u16],
+    value: &mut [u32],
+    count: usize,
+    w: &[u8],
+    v: u32,
+) -> Inserted
+    requires { ⌜ Counted (now label) (now first) (now next) count ⌝ }
+    requires { ⌜ length (now value) ≡ length (now label) ⌝ }
+    ensures { λ r. ⌜ ((t : Trie) (m : Map) → Holds t (now (label .entry)) (now (first .entry)) (now (next .entry)) → Noted t m (now (value .entry)) → count ≡ size t → PutOf t m (now (w .entry)) v (now (label .exit)) (now (first .exit)) (now (next .exit)) (now (value .exit)) r) ⌝ }
+{
+    match insert(label, first, next, count, w) {
+        Inserted::Put(node, m) => {
+            value[node] = v;
+            Inserted::Put(node, m)
+        }
+        Inserted::Full => Inserted::Full,
+    }
+}
+
+// The number of the word w, or 0.
+pub fn get(label: &[u8], first: &[u16], next: &[u16], value: &[u32], w: &[u8]) -> u32
+    requires { ⌜ Node (now label) (now first) (now next) 0 ⌝ }
+    requires { ⌜ length (now value) ≡ length (now label) ⌝ }
+    ensures { λ r. ⌜ ((t : Trie) (m : Map) → Holds t (now (label .entry)) (now (first .entry)) (now (next .entry)) → Noted t m (now (value .entry)) → r ≡ valueOf m (now (w .entry))) ⌝ }
+{
+    match walk(label, first, next, 0, w) {
+        Walked::At(i) => value[i],
+        Walked::Off => 0,
+    }
+}
+
+// No marks.
+pub fn clear_marks(marks: &mut [u8])
+    ensures { λ _. ⌜ ((t : Trie) → Noted t (marksOf []) (now (marks .exit))) ⌝ }
+{
+    let mut i = 0;
+    while i < marks.len() {
+        marks[i] = 0;
+        i += 1;
+    }
+}
+
+// The word of a node is marked.
+pub fn mark(marks: &mut [u8], node: usize)
+    requires { ⌜ node < length (now marks) ⌝ }
+    ensures { λ _. ⌜ ((t : Trie) (ws : List Word) → Proper t → Noted t (marksOf ws) (now (marks .entry)) → node < size t → Noted t (marksOf (wordOf t node ∷ ws)) (now (marks .exit))) ⌝ }
+{
+    marks[node] = 1;
+}
+
+// Whether the word of a node is marked.
+pub fn is_marked(marks: &[u8], node: usize) -> bool
+    requires { ⌜ node < length (now marks) ⌝ }
+    ensures { λ r. ⌜ ((t : Trie) (ws : List Word) → Noted t (marksOf ws) (now (marks .entry)) → node < size t → r ≡ isIn (wordOf t node) ws) ⌝ }
+{
+    marks[node] != 0
+}
+
+// The first n bytes of path to out at the place at.
+fn copy(path: &[u8], n: usize, out: &mut [u8], at: usize)
+    requires { ⌜ (n ≤ length (now path)) × (at + n ≤ length (now out)) ⌝ }
+    ensures { λ _. ⌜ now (out .exit) ≡ paste (now (out .entry)) at (now (path .entry)) n ⌝ }
+{
+    let mut i = 0;
+    while i < n {
+        out[at + i] = path[i];
+        i += 1;
+    }
+}
+
+// The word that the first n bytes of path are, behind its length byte, to out at the place at.
+fn emit(path: &[u8], n: usize, out: &mut [u8], at: usize) -> Visited
+    requires { ⌜ (n ≤ length (now path)) × (n < 256) × (at ≤ length (now out)) ⌝ }
+    ensures { λ r. ⌜ WroteOf (n ∷ take n (now (path .entry))) (now (out .entry)) at (now (out .exit)) r ⌝ }
+{
+    if out.len() - at <= n {
+        return Visited::Full;
+    }
+    out[at] = n as u8;
+    copy(path, n, out, at + 1);
+    Visited::Done(at + 1 + n)
+}
+
+// The maximal words below a node, whose word the first `depth` bytes of path are, in order of inputs, to out at the place at.
+pub fn visit(
+    label: &[u8],
+    first: &[u16],
+    next: &[u16],
+    k: u8,
+    node: usize,
+    path: &mut [u8],
+    depth: usize,
+    out: &mut [u8],
+    at: usize,
+) -> Visited
+    requires { ⌜ Visiting (now label) (now first) (now next) node depth (length (now path)) ⌝ }
+    requires { ⌜ (length (now path) < 256) × (at ≤ length (now out)) ⌝ }
+    ensures { λ r. ⌜ take depth (now (path .exit)) ≡ take depth (now (path .entry)) ⌝ }
+    ensures { λ r. ⌜ ((t : Trie) → Holds t (now (label .entry)) (now (first .entry)) (now (next .entry)) → node < size t → (d : ℕ) → size t ≤ node + d → WroteOf (bytesOf (leaves t k d node (take depth (now (path .entry))))) (now (out .entry)) at (now (out .exit)) r) ⌝ }
+{
+    if first[node] == 0 {
+        return emit(path, depth, out, at);
+    }
+    let mut pos = at;
+    let mut a = 0;
+    while a < k {
+        let j = child(label, first, next, node, a);
+        if j == 0 {
+            a += 1;
+            continue;
+        }
+        path[depth] = a;
+        let below = visit(label, first, next, k, j, path, depth + 1, out, pos);
+        let Visited::Done(p) = below else {
+            return Visited::Full;
+        };
+        pos = p;
+        a += 1;
+    }
+    Visited::Done(pos)
+}
+
+// The maximal words, in order of inputs, to out at the place at. Path is for the word at hand.
+pub fn list(
+    label: &[u8],
+    first: &[u16],
+    next: &[u16],
+    k: u8,
+    path: &mut [u8],
+    out: &mut [u8],
+    at: usize,
+) -> Visited
+    requires { ⌜ Deep (now label) (now first) (now next) (length (now path)) ⌝ }
+    requires { ⌜ (length (now path) < 256) × (at ≤ length (now out)) ⌝ }
+    ensures { λ r. ⌜ ((t : Trie) → Holds t (now (label .entry)) (now (first .entry)) (now (next .entry)) → WroteOf (bytesOf (maximal t k)) (now (out .entry)) at (now (out .exit)) r) ⌝ }
+{
+    visit(label, first, next, k, 0, path, 0, out, at)
+}
+
+// How many words there are with the maximal ones below a node, `words` being before them, and where their bytes end, which
+// begin at the place at. Nothing is written.
+pub fn measure(
+    label: &[u8],
+    first: &[u16],
+    next: &[u16],
+    k: u8,
+    node: usize,
+    depth: usize,
+    room: usize,
+    words: usize,
+    at: usize,
+) -> Measured
+    requires { ⌜ Visiting (now label) (now first) (now next) node depth 255 × (words ≤ at) × (at ≤ room) ⌝ }
+    ensures { λ r. ⌜ ((t : Trie) → Holds t (now (label .entry)) (now (first .entry)) (now (next .entry)) → node < size t → (d : ℕ) → size t ≤ node + d → (u : Word) → length u ≡ depth → MeasureOf (leaves t k d node u) words at room r) ⌝ }
+{
+    if first[node] == 0 {
+        if room - at <= depth {
+            return Measured::Over;
+        }
+        return Measured::Fits(words + 1, at + 1 + depth);
+    }
+    let mut n = words;
+    let mut pos = at;
+    let mut a = 0;
+    while a < k {
+        let j = child(label, first, next, node, a);
+        if j == 0 {
+            a += 1;
+            continue;
+        }
+        let deeper = measure(label, first, next, k, j, depth + 1, room, n, pos);
+        let Measured::Fits(m, p) = deeper else {
+            return Measured::Over;
+        };
+        n = m;
+        pos = p;
+        a += 1;
+    }
+    Measured::Fits(n, pos)
+}

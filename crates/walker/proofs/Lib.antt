@@ -1,0 +1,3 @@
+pub mod Words
+pub mod Tables
+pub mod Steps
