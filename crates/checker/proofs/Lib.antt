@@ -3,3 +3,6 @@ pub mod Marks
 pub mod Known
 pub mod Rows
 pub mod Soundness
+pub mod Filling
+pub mod Firsts
+pub mod Untested

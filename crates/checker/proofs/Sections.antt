@@ -1,10 +1,10 @@
 -- Laws of the searches over a section of words.
 use Prim.Native.Nat.{ℕ, _+_, _-_, _≤_, _<_}
 use native.Mathlib.Omega.{arith}
-use mathlib.Core.Path.{_≡_, refl, sym, _∙_}
+use mathlib.Core.Path.{_≡_, refl, sym, _∙_, ap}
 use mathlib.Core.List.{List, [], _∷_, List·Memᴰ·head, List·Memᴰ·tail}
 use mathlib.Core.Bool.{Bool, true}
-use lib.ListN.{length, getD}
+use lib.ListN.{length, getD, take, drop}
 use Rattle.rules.specs.Lists.{_∈_, all}
 use Rattle.rules.specs.Words.{Word, isIn}
 use Rattle.reader.specs.Places.{wordAt, afterWord, wordsAt, WordsAt}
@@ -49,3 +49,8 @@ module _ (s : List ℕ) (p k c n : ℕ) (some : 0 < c) (stand : WordsAt s p k c)
 -- no words are left, and all of them pass
 pub all-end : (s : List ℕ) (p c : ℕ) (test : Word → Bool) → c ≤ 0 → all test (wordsAt s p c) ≡ true
 all-end s p c test done = rw (words-end s p c done)
+
+-- the part of the bytes behind the length byte is the word
+pub word-part : (s : List ℕ) (p n : ℕ) → n ≡ getD s p 0 → take (p + 1 + n - (p + 1)) (drop (p + 1) s) ≡ wordAt s p
+unfolding wordAt
+word-part s p n e = let same : p + 1 + n - (p + 1) ≡ getD s p 0 = omega arith in rw same
