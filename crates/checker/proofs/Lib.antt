@@ -1,8 +1,6 @@
-pub mod Sections
-pub mod Marks
-pub mod Known
-pub mod Rows
-pub mod Soundness
-pub mod Filling
-pub mod Firsts
+pub mod Ways
 pub mod Untested
+pub mod Scans
+pub mod Missing
+pub mod Lacking
+pub mod Accepting

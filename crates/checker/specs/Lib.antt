@@ -1,3 +1,1 @@
-pub mod Lent
-pub mod Searches
-pub mod Distinct
+pub mod Blocks

@@ -1,4 +1,4 @@
--- How many words there are, which stands at a place, and that a middle says which word it is.
+-- How many words there are, and which stands at a place.
 use Prim.Native.Nat.{ℕ, zero, suc, _+_, _-_, _*_, _/_, _%_, _^_, _≤_, _<_}
 use mathlib.Core.Path.{_≡_, refl, sym, ap, _∙_}
 use mathlib.Core.List.{List, [], _∷_, _++_, map, flatMap, append-assoc}
@@ -11,29 +11,9 @@ use lib.Seq.{getD-append-add}
 use Rattle.rules.specs.declared.Input.{Input}
 use Rattle.rules.specs.declared.Middle.{Middle}
 use Rattle.rules.specs.Lists.{numbers, numbersFrom}
-use Rattle.rules.specs.Words.{Word, Valid, wordsOf, shortlex}
+use Rattle.rules.specs.Words.{Word, wordsOf, shortlex}
 use Rattle.rules.specs.Answers.{middleOf}
-use Rattle.theory.specs.Lists.{getD-in}
-use Rattle.theory.specs.Shortlex.{in-shortlex}
-use Rattle.middles.specs.Middles.{inputsOf, wordsFrom}
-
--- What stands at a place among the middles is a word of inputs below k, and not too long.
-pub place-word : (k most x : ℕ) → x < length (shortlex k most) → Valid k (getD (shortlex k most) x []) × (length (getD (shortlex k most) x []) ≤ most)
-place-word k most x h = in-shortlex k most (getD (shortlex k most) x []) .0 (getD-in (shortlex k most) x [] h)
-
--- A middle of a word is that word.
-pub middle-word : (w : Word) → length w ≤ 5 → inputsOf (middleOf w) ≡ w
-middle-word [] h = refl
-middle-word (a ∷ []) h = refl
-middle-word (a ∷ b ∷ []) h = refl
-middle-word (a ∷ b ∷ c ∷ []) h = refl
-middle-word (a ∷ b ∷ c ∷ d ∷ []) h = refl
-middle-word (a ∷ b ∷ c ∷ d ∷ e ∷ []) h = refl
-middle-word (a ∷ b ∷ c ∷ d ∷ e ∷ f ∷ w) h = absurd (omega arith)
-
--- So two words with the same middle are the same.
-pub middle-injective : (v w : Word) → length v ≤ 5 → length w ≤ 5 → middleOf v ≡ middleOf w → v ≡ w
-middle-injective v w hv hw e = sym (middle-word v hv) ∙ ap inputsOf e ∙ middle-word w hw
+use Rattle.middles.specs.Middles.{wordsFrom}
 
 -- The middle of the empty word.
 pub none-word : (none : Input) → none .0 ≡ 0 → record { len = 0; a = none; b = none; c = none; d = none; e = none } ≡ middleOf []
@@ -52,7 +32,7 @@ module _ (i a b c d e : Input) where
   longer-word (u ∷ v ∷ x ∷ y ∷ []) m is h p q r s t = rw (p, q, r, s, t, is)
   longer-word (u ∷ v ∷ x ∷ y ∷ z ∷ w) m is h p q r s t = absurd (omega arith)
 
-get-map : {A B : Type 0} (f : A → B) (l : List A) (r : ℕ) (d : A) (e : B) → r < length l → getD (map f l) r e ≡ f (getD l r d)
+pub get-map : {A B : Type 0} (f : A → B) (l : List A) (r : ℕ) (d : A) (e : B) → r < length l → getD (map f l) r e ≡ f (getD l r d)
 get-map f [] r d e h = absurd (omega arith)
 get-map f (a ∷ l) zero d e h = refl
 get-map f (a ∷ l) (suc r) d e h = let h′ : r < length l = omega arith in get-map f l r d e h′
@@ -121,7 +101,7 @@ unfolding shortlex
 middles-more k b = length-append (shortlex k b) (wordsOf k (suc b))
 
 -- a sum of powers of 16
-fifteen : (k b : ℕ) → k ≤ 16 → 15 * length (shortlex k b) < 16 ^ suc b
+pub fifteen : (k b : ℕ) → k ≤ 16 → 15 * length (shortlex k b) < 16 ^ suc b
 fifteen k zero hk = unfold shortlex wordsOf in omega arith
 fifteen k (suc b) hk =
     let shorter = fifteen k b hk in

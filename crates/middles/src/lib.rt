@@ -1,17 +1,29 @@
 // The middles (document 01, "Needed words"): the words of at most `most` inputs, by length, then by inputs. They have the
 // places 0, 1, .. in that order, so that a loop can go through them by number; the middle at a place is grown one input at
 // a time.
+use reader::DossierShape;
+use reader::bound_of;
 use rules::Input;
 use rules::Middle;
 ghost use mathlib.Core.Path.{_≡_};
 ghost use mathlib.Core.List.{[], _∷_, _++_};
 ghost use mathlib.Core.Bool.{cond};
-ghost use Prim.Native.Nat.{_+_, _≤_, _<_};
+ghost use Prim.Native.Nat.{suc, _+_, _-_, _≤_, _<_};
 ghost use lib.Dec.{eqb};
 ghost use lib.ListN.{length, getD};
+ghost use Rattle.rules.specs.Sizes.{boundOf};
 ghost use Rattle.rules.specs.Words.{Word, wordsOf, shortlex};
 ghost use Rattle.rules.specs.Answers.{middleOf};
 ghost use Rattle.middles.specs.Middles.{wordsFrom};
+
+// The most inputs of a middle.
+pub fn longest_middle(x: DossierShape) -> u8
+    requires { ⌜ (x .states ≤ boundOf (x .states) (x .«bound_byte»)) × (boundOf (x .states) (x .«bound_byte») ≤ x .states + 4) ⌝ }
+    ensures { λ r. ⌜ (r ≡ suc (boundOf (x .states) (x .«bound_byte») - x .states)) × (r ≤ 5) ⌝ }
+{
+    let states = x.states;
+    bound_of(states, x.bound_byte) - states + 1
+}
 
 // The empty middle, from which all others grow.
 pub fn no_inputs() -> Middle
@@ -59,20 +71,6 @@ pub fn grown(m: Middle, i: Input) -> Middle
         c: c2,
         d: d2,
         e: e2,
-    }
-}
-
-// The input at place j of a middle.
-pub fn input_of(m: Middle, j: u8) -> Input
-    requires { ⌜ j < 5 ⌝ }
-    ensures { λ r. ⌜ ((w : Word) → m ≡ middleOf w → r .0 ≡ getD w j 0) ⌝ }
-{
-    match j {
-        0 => m.a,
-        1 => m.b,
-        2 => m.c,
-        3 => m.d,
-        _ => m.e,
     }
 }
 

@@ -90,7 +90,7 @@ module _ (d : DossierData) where
   built-is-accepted s = sound-accepted (builtDossier d) (built-sound s) (λ w n. built-tests .enough w (needed-same w n))
 
   -- A needed word has at most 97 + 5 + 97 inputs, so a built test is no longer than a test may be.
-  needed-sized : SizedDossier d → (w : Word) → IsNeeded d w → Valid (d .inputs) w × (length w ≤ mostTestWord)
+  pub needed-sized : SizedDossier d → (w : Word) → IsNeeded d w → Valid (d .inputs) w × (length w ≤ mostTestWord)
   needed-sized sized w n =
       let (valid-c, short-c) = sized .cover (n .front) (n .covering) in
       let (valid-s, short-s) = sized .separating (n .back) (n .separating) in

@@ -5,7 +5,9 @@ use mathlib.Core.Logic.{_↔_, _≢_}
 use mathlib.Core.List.{List}
 use lib.ListN.{length}
 use Rattle.rules.specs.declared.Checked.the-variants.{Accepted}
+use Rattle.rules.specs.declared.Ran.{Ran}
 use Rattle.rules.specs.declared.Ran.the-variants.{Passes}
+use Rattle.rules.specs.declared.Compared.{Compared}
 use Rattle.rules.specs.declared.Compared.the-variants.{Equal as Alike}
 use Rattle.rules.specs.declared.Judged.the-variants.{Agrees, Deviates}
 use Rattle.rules.specs.Lists.{_∈_}
@@ -14,10 +16,12 @@ use Rattle.rules.specs.Machines.{Machine, Complete, answer}
 use Rattle.rules.specs.Files.{DossierData, UnitData, SheetRecord, golden, unit, bound}
 use Rattle.rules.specs.Needed.{IsAccepted}
 use Rattle.rules.specs.Operations.{fine, readDossier, readUnit, readSheet, checkAnswer, runAnswer, compareAnswer, judgeAnswer}
+use Rattle.rules.specs.Promises.{CheckPromise, RunPromise, ComparePromise}
 use Rattle.theory.specs.Lists.{At}
 use Rattle.theory.specs.Machines.{golden-complete}
 use Rattle.theory.specs.Complete.{complete}
 use Rattle.theory.specs.Outcomes.{fine-injective}
+use Rattle.theory.specs.Answers.{check-answer, run-answer, compare-answer}
 use Rattle.theory.specs.Files.{dossier-sized, unit-sized}
 use Rattle.theory.specs.Check.{check-exactly}
 use Rattle.theory.specs.Steps.{step-differs}
@@ -79,6 +83,15 @@ passes-exactly-when-equal dossierFile unitFile out d u accepted reads unit-reads
 
     unit-whole : Complete (d .inputs) (unit u)
     unit-whole = rw inputs (golden-complete (unit-sized unitFile u unit-reads .machine))
+
+-- The same of whatever the promises allow: of any programs that keep them, with any output lent to compare.
+pub allowed-passes-exactly-when-equal : (dossierFile unitFile out left : List ℕ) (d : DossierData) (u : UnitData) (ran : Ran) (compared : Compared) → CheckPromise dossierFile Accepted
+    → readDossier dossierFile ≡ fine d → readUnit unitFile ≡ fine u → d .inputs ≡ u .inputs → u .states ≤ bound d
+    → RunPromise dossierFile unitFile ran → ComparePromise dossierFile unitFile out compared left
+    → ((n : ℕ) × (ran ≡ Passes n)) ↔ (compared ≡ Alike)
+allowed-passes-exactly-when-equal dossierFile unitFile out left d u ran compared accepted reads unit-reads inputs few runs compares =
+    rw (run-answer dossierFile unitFile ran runs, compare-answer dossierFile unitFile out compared left compares .0)
+    (passes-exactly-when-equal dossierFile unitFile out d u (sym (check-answer dossierFile Accepted accepted)) reads unit-reads inputs few)
 
 -- the sheet of a machine: each record has its answer
 abbrev pub SheetOf : Machine → List SheetRecord → Type 0

@@ -3,17 +3,18 @@
 use Prim.Native.Nat.{ℕ}
 use native.Mathlib.Nat.{add-comm}
 use native.Mathlib.Omega.{arith}
-use lib.ListN.{take, drop}
-use mathlib.Core.Path.{_≡_, refl, sym, _∙_}
+use lib.ListN.{take, drop, replicate}
+use mathlib.Core.Path.{_≡_, refl, sym, _∙_, ap}
 use mathlib.Core.Logic.{_↔_, _≢_}
 use mathlib.Core.List.{List, [], _∷_}
-use Rattle.rules.specs.declared.Ran.the-variants.{Passes}
-use Rattle.rules.specs.declared.Compared.the-variants.{Equal as Alike}
+use Rattle.rules.specs.declared.Ran.the-variants.{Passes, Fails}
+use Rattle.rules.specs.declared.Compared.the-variants.{Equal as Alike, Differs}
 use Rattle.rules.specs.declared.Judged.the-variants.{Agrees}
 use Rattle.rules.specs.Words.{Word, Valid, same}
 use Rattle.rules.specs.Machines.{answer}
 use Rattle.rules.specs.Files.{DossierData, SheetRecord, golden, unit}
 use Rattle.rules.specs.Operations.{fine, readDossier, readSheet, runAnswer, compareAnswer, judgeAnswer, judgedPart}
+use Rattle.rules.specs.Answers.{checkSays, runSays, compareSays}
 use Rattle.rules.specs.Starred.{built2, built3, unitV, sheet2, sheet2′, sheetV, dataG2, dataG3, dataV, records2, records2′, recordsV, starred}
 use Rattle.theory.specs.Lists.{At, all-true}
 use Rattle.theory.specs.Words.{same-true}
@@ -25,7 +26,7 @@ use Rattle.theory.specs.Judge.{AllGolden, judge-exactly}
 use Rattle.theory.specs.Compare.{Equal}
 use Rattle.theory.specs.Pairing.{Belongs}
 use Rattle.theory.specs.Outcomes.{fine-injective}
-use Rattle.theory.specs.Demands.{Covered, SheetOf, tests-settle-every-word, equal-exactly, passes-exactly-when-equal, agreeing-sheet-settles, deviating-sheet-tells, equal-machine-agrees}
+use Rattle.theory.specs.Demands.{Covered, SheetOf, tests-settle-every-word, equal-exactly, passes-exactly-when-equal, allowed-passes-exactly-when-equal, agreeing-sheet-settles, deviating-sheet-tells, equal-machine-agrees}
 
 -- the sheet with the golden's answers
 abbrev trueSheet : List ℕ
@@ -53,6 +54,12 @@ complete-example = tests-settle-every-word built2 dataG2 (starred .accepted-2) (
 passes-example : ((n : ℕ) × (runAnswer built3 unitV ≡ Passes n)) ↔ (compareAnswer built3 unitV [] ≡ Alike)
 passes-example =
     passes-exactly-when-equal built3 unitV [] dataG3 dataV (starred .accepted-3) (starred .reads-3) (starred .unit-reads) refl (covered-V .few)
+
+-- The same of what the promises allow for them: FAILS and DIFFERS.
+allowed-example : ((n : ℕ) × (Fails 1 2 ≡ Passes n)) ↔ (Differs 3 ≡ Alike)
+allowed-example =
+    allowed-passes-exactly-when-equal built3 unitV (replicate 5 170) (0 ∷ 1 ∷ 0 ∷ replicate 2 170) dataG3 dataV (Fails 1 2) (Differs 3) (ap checkSays (sym (starred .accepted-3))) (starred .reads-3) (starred .unit-reads) refl (covered-V .few)
+    (ap runSays (sym (starred .run-3))) (ap compareSays (sym (starred .compare-3 .0)), sym (starred .compare-3 .1))
 
 -- Equal exactly when alike on every word, at the same two.
 equal-example : (compareAnswer built3 unitV [] ≡ Alike) ↔ Equal 2 (golden dataG3) (unit dataV)

@@ -103,6 +103,27 @@ pub first-same : {A : Type 0} (f g : A → Bool) (l : List A) → ((x : A) → x
 first-same f g [] h = refl
 first-same f g (x ∷ l) h = rw (h x (List·Memᴰ·head refl), first-same f g l (λ y m. h y (List·Memᴰ·tail m)))
 
+-- A search in one list and then in another.
+pub first-left : {A : Type 0} (test : A → Bool) (l r : List A) {x : A} → first test l ≡ some x → first test (l ++ r) ≡ some x
+first-left test [] r e = none-not-some e
+first-left test (a ∷ l) r e =
+    elim (outcome (test a)) [ inl p ↦ rw p (rw p at e) | inr p ↦ rw p (first-left test l r (rw p at e)) ]
+
+pub first-right : {A : Type 0} (test : A → Bool) (l r : List A) → first test l ≡ none → first test (l ++ r) ≡ first test r
+first-right test [] r e = refl
+first-right test (a ∷ l) r e =
+    elim (outcome (test a)) [ inl p ↦ none-not-some (sym (rw p at e)) | inr p ↦ rw p (first-right test l r (rw p at e)) ]
+
+-- A list does not grow when some are kept of it, nor when places are put beside its elements.
+pub keep-length : {A : Type 0} (test : A → Bool) (l : List A) → length (keep test l) ≤ length l
+keep-length test [] = omega arith
+keep-length test (a ∷ l) =
+    elim (outcome (test a)) [ inl p ↦ rw p (omega (arith, keep-length test l)) | inr p ↦ rw p (omega (arith, keep-length test l)) ]
+
+pub placed-length : {A : Type 0} (i : ℕ) (l : List A) → length (placedFrom i l) ≡ length l
+placed-length i [] = refl
+placed-length i (a ∷ l) = ap suc (placed-length (suc i) l)
+
 -- each element comes before all that follow it
 abbrev pub Rising : {A : Type 0} → (A → A → Type 0) → List A → Type 0
 Rising before [] = Unit {0}

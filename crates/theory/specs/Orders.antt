@@ -90,15 +90,9 @@ byLength-irreflexive w = first-then-irreflexive (length w) (byInputs-irreflexive
 pub byLength-transitive : (u v w : Word) → ByLength u v → ByLength v w → ByLength u w
 byLength-transitive u v w = first-then-transitive (length u) (length v) (length w) (byInputs-transitive u v w)
 
-pub byLength-total : (v w : Word) → v ≢ w → ByLength v w ⊎ ByLength w v
-byLength-total v w ne = first-then-total (length v) (length w) (λ e. byInputs-total v w ne)
-
 -- A shorter word comes first by length.
 pub shorter-first : (v w : Word) → length v < length w → ByLength v w
 shorter-first v w short = first-then-says (length v) (length w) (byInputs v w) .1 (inl short)
-
-pub byInputs-one-way : OneWay ByInputs
-byInputs-one-way v w h h′ = byInputs-irreflexive v (byInputs-transitive v w v h h′)
 
 pub byLength-one-way : OneWay ByLength
 byLength-one-way v w h h′ = byLength-irreflexive v (byLength-transitive v w v h h′)

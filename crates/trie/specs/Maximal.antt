@@ -241,7 +241,7 @@ holding-labels k ws h = all-labels k root ws h tt
 abbrev pub Last : List Word → Word → Type 0
 Last ws x = ((x ≡ []) ⊎ (x ∈ ws)) × ((w y : Word) → w ∈ ws → x ++ y ≡ w → y ≡ [])
 
-nil-right : (x y : Word) → x ++ y ≡ [] → y ≡ []
+pub nil-right : (x y : Word) → x ++ y ≡ [] → y ≡ []
 nil-right [] y e = e
 nil-right (a ∷ x) y e =
     let z : _≡_ {A = ℕ} 0 1 = cc in absurd (omega arith)

@@ -159,7 +159,7 @@ holding-bytes k ws valid = nodes-bytes (holding-proper ws) k (holding-labels k w
 
 -- more words, more nodes
 
-all-grows : (t : Trie) (ws : List Word) → size t ≤ size (addAll t ws)
+pub all-grows : (t : Trie) (ws : List Word) → size t ≤ size (addAll t ws)
 unfolding addAll
 all-grows t [] = omega arith
 all-grows t (w ∷ ws) = omega (arith, add-grows t 0 w, all-grows (addWord t 0 w) ws)

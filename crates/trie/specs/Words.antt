@@ -346,7 +346,7 @@ walks-meet {t} v u w i j e f = (
   λ same. let k : walkFrom t 0 u ≡ walkFrom t 0 w = rw same in cc,
 )
 
--- what `begins_some` answers
+-- what a walk from the root says
 
 pub begins-at : (v : Word) (ws : List Word) (w : Word) (r : Walked) (j : ℕ) → r ≡ walkFrom (holding (v ∷ ws)) 0 w → r ≡ At j → true ≡ any (begins w) (v ∷ ws)
 begins-at v ws w r j e k = sym (reaches-any v ws w .0 (j, sym e ∙ k))

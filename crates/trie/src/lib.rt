@@ -6,9 +6,8 @@ ghost use Prim.Native.Nat.{ℕ, _+_, _≤_, _<_};
 ghost use mathlib.Core.List.{List, [], _∷_};
 ghost use lib.ListN.{length, take};
 ghost use lib.Seq.{paste};
-ghost use Rattle.rules.specs.Lists.{any};
-ghost use Rattle.rules.specs.Words.{Word, begins, isIn};
-ghost use Rattle.trie.specs.Model.{Trie, root, grow, size, childIn, wordOf, walkFrom, holding, Proper};
+ghost use Rattle.rules.specs.Words.{Word, isIn};
+ghost use Rattle.trie.specs.Model.{Trie, root, grow, size, childIn, wordOf, walkFrom, Proper};
 ghost use Rattle.trie.specs.Holds.{Holds, Node, Counted, StepOf, InsertOf};
 ghost use Rattle.trie.specs.Values.{Map, empty, put, valueOf, marksOf, Noted, PutOf};
 ghost use Rattle.trie.specs.Visits.{leaves, maximal, bytesOf, WroteOf, MeasureOf, Visiting, Deep};
@@ -112,17 +111,6 @@ pub fn walk(label: &[u8], first: &[u16], next: &[u16], p: usize, w: &[u8]) -> Wa
         i += 1;
     }
     Walked::At(node)
-}
-
-// Whether the word w begins one of the words of the trie, which has at least one.
-pub fn begins_some(label: &[u8], first: &[u16], next: &[u16], w: &[u8]) -> bool
-    requires { ⌜ Node (now label) (now first) (now next) 0 ⌝ }
-    ensures { λ r. ⌜ ((v : Word) (ws : List Word) → Holds (holding (v ∷ ws)) (now (label .entry)) (now (first .entry)) (now (next .entry)) → r ≡ any (begins (now (w .entry))) (v ∷ ws)) ⌝ }
-{
-    match walk(label, first, next, 0, w) {
-        Walked::At(_) => true,
-        Walked::Off => false,
-    }
 }
 
 // The node under p with the label a, made if there is none.
@@ -284,7 +272,7 @@ pub fn is_marked(marks: &[u8], node: usize) -> bool
 }
 
 // The first n bytes of path to out at the place at.
-fn copy(path: &[u8], n: usize, out: &mut [u8], at: usize)
+pub fn copy(path: &[u8], n: usize, out: &mut [u8], at: usize)
     requires { ⌜ (n ≤ length (now path)) × (at + n ≤ length (now out)) ⌝ }
     ensures { λ _. ⌜ now (out .exit) ≡ paste (now (out .entry)) at (now (path .entry)) n ⌝ }
 {

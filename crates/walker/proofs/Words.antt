@@ -1,9 +1,8 @@
 -- Laws of words that stand in bytes, and of the step at which two words part.
-use Prim.Native.Nat.{ℕ, suc, _+_, _*_, _≤_, _<_}
+use Prim.Native.Nat.{ℕ, suc, _+_, _≤_, _<_}
 use mathlib.Core.Path.{_≡_, refl, ap}
 use mathlib.Core.List.{List, [], _∷_}
 use mathlib.Core.Bool.{Bool, true, false, _||_}
-use native.Mathlib.Nat.{mul-le-mul}
 use native.Mathlib.Numerals.{add-one}
 use native.Mathlib.Omega.{arith}
 use native.Mathlib.Decide.{ℕ-discrete}
@@ -15,9 +14,6 @@ use Rattle.rules.specs.Words.{Word, same, begins, byInputs}
 use Rattle.rules.specs.Operations.{firstDifference}
 use Rattle.reader.specs.Places.{wordAt, WordAt}
 use Rattle.walker.specs.Walks.{Whole}
-
-pub product-fits : (a b : ℕ) → a ≤ 255 → b ≤ 255 → a * b ≤ 65025
-product-fits a b ha hb = mul-le-mul ha hb
 
 -- a word has as many inputs as its length byte says
 pub word-length : (s : List ℕ) (p : ℕ) → Whole s p → length (wordAt s p) ≡ getD s p 0

@@ -320,7 +320,7 @@ pub fn answer_alike(
 }
 
 // Whether golden and unit give the same output to an input.
-fn outputs_agree(
+pub fn outputs_agree(
     dossier: &[u8],
     table: usize,
     inputs: u8,

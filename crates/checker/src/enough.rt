@@ -1,0 +1,105 @@
+// Whether a dossier's tests are enough (document 01, refusal 11).
+use crate::search::find_missing;
+use filing::find_firsts;
+use filing::node_bytes;
+use filing::node_links;
+use filing::put_words;
+use middles::no_inputs;
+use reader::DossierShape;
+use rules::Refusal;
+use soundness::Finding;
+ghost use mathlib.Core.Path.{_≡_};
+ghost use Prim.Native.Nat.{_<_};
+ghost use lib.ListN.{length};
+ghost use Rattle.rules.specs.Operations.{fine};
+ghost use Rattle.soundness.specs.Lent.{Lent, soundOf, findingOf};
+ghost use Rattle.checker.specs.Blocks.{enoughOf};
+
+// A node for each middle that others grow from: 16 inputs have 69,905 words of at most four.
+fn middle_nodes() -> [u16; 69905]
+    ensures { λ r. ⌜ 69905 ≡ length r ⌝ }
+{
+    [0; 69905]
+}
+
+// The first needed word that begins no test, over arrays with a place for each node. The separating words go through them
+// before the tests do, to find those that are looked for once only.
+fn search_in(
+    bytes: &[u8],
+    x: DossierShape,
+    label: &mut [u8],
+    first: &mut [u16],
+    next: &mut [u16],
+    marks: &mut [u8],
+    done: &mut [u8],
+    nodes: &mut [u16],
+    numbers: &mut [u16],
+    places: &mut [u16],
+) -> Finding
+    requires { ⌜ (Lent (now bytes) x) × (0 < x .separators) × (0 < x .count) ⌝ }
+    requires { ⌜ (length (now label) ≡ 65536) × (length (now first) ≡ 65536) × (length (now next) ≡ 65536) ⌝ }
+    requires { ⌜ (length (now marks) ≡ 65536) × (length (now done) ≡ 65536) × (length (now nodes) ≡ 69905) × (length (now numbers) ≡ 65536) × (length (now places) ≡ 65536) ⌝ }
+    ensures { λ r. ⌜ r ≡ findingOf (enoughOf (now (bytes .entry))) ⌝ }
+{
+    let inputs = x.inputs;
+    let from = x.separating;
+    let separators = x.separators;
+    put_words(bytes, from, inputs, separators, label, first, next);
+    let n = find_firsts(
+        bytes,
+        from,
+        inputs,
+        separators,
+        label,
+        first,
+        next,
+        marks,
+        numbers,
+        places,
+    );
+    put_words(bytes, x.tests, inputs, x.count, label, first, next);
+    find_missing(
+        bytes,
+        x,
+        label,
+        first,
+        next,
+        marks,
+        done,
+        nodes,
+        numbers,
+        places,
+        n,
+    )
+}
+
+// The first needed word that begins no test, of a dossier that none of 7 to 10 refuses.
+pub fn find_lacking(bytes: &[u8], x: DossierShape) -> Finding
+    requires { ⌜ Lent (now bytes) x ⌝ }
+    requires { ⌜ soundOf (now bytes) ≡ fine tt ⌝ }
+    ensures { λ r. ⌜ r ≡ findingOf (enoughOf (now (bytes .entry))) ⌝ }
+{
+    if x.count == 0 {
+        return Finding::Refused(Refusal::Missing(0, no_inputs(), 0));
+    }
+    let mut label = node_bytes();
+    let mut first = node_links();
+    let mut next = node_links();
+    let mut marks = node_bytes();
+    let mut done = node_bytes();
+    let mut nodes = middle_nodes();
+    let mut numbers = node_links();
+    let mut places = node_links();
+    search_in(
+        bytes,
+        x,
+        &mut label,
+        &mut first,
+        &mut next,
+        &mut marks,
+        &mut done,
+        &mut nodes,
+        &mut numbers,
+        &mut places,
+    )
+}

@@ -1,0 +1,3 @@
+pub mod Filling
+pub mod Firsts
+pub mod Once

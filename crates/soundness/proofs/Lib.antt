@@ -1,0 +1,6 @@
+pub mod Sections
+pub mod Marks
+pub mod Known
+pub mod Rows
+pub mod Soundness
+pub mod Behind
