@@ -1,0 +1,111 @@
+// The answers of build (document 01, refusals 1 to 10 and 17).
+use crate::write::write_built;
+use filing::node_bytes;
+use filing::node_links;
+use grower::Grown;
+use grower::grow_needed;
+use reader::DossierRead;
+use reader::DossierShape;
+use rules::Built;
+use rules::MOST_DOSSIER_BYTES;
+use rules::Refusal;
+use soundness::read_sound;
+use trie::Measured;
+use trie::measure;
+ghost use mathlib.Core.Path.{_≡_};
+ghost use lib.ListN.{length};
+ghost use Rattle.rules.specs.Promises.{BuildPromise};
+ghost use Rattle.builder.specs.Ready.{Buildable, Planted};
+
+// The answer for any dossier that is over its size.
+const OVER_SIZE: usize = 65536;
+
+// Over a trie of the needed words. The words are measured first, so that nothing is written unless all of it fits.
+fn build_planted(
+    bytes: &[u8],
+    x: DossierShape,
+    label: &[u8],
+    first: &[u16],
+    next: &[u16],
+    out: &mut [u8],
+) -> Built
+    requires { ⌜ Planted (now bytes) x (now label) (now first) (now next) ⌝ }
+    ensures { λ r. ⌜ BuildPromise (now (bytes .entry)) (now (out .entry)) r (now (out .exit)) ⌝ }
+{
+    match measure(
+        label,
+        first,
+        next,
+        x.inputs,
+        0,
+        0,
+        MOST_DOSSIER_BYTES,
+        0,
+        x.tests,
+    ) {
+        Measured::Fits(words, size) => {
+            if out.len() < size {
+                return Built::Refused(Refusal::NoRoom(size));
+            }
+            write_built(bytes, x, label, first, next, words, out);
+            Built::Written(size)
+        }
+        Measured::Over => Built::Refused(Refusal::NoRoom(OVER_SIZE)),
+    }
+}
+
+// Over arrays with a place for each node. Where the needed words have more nodes, their bytes are over the size too.
+fn build_in(
+    bytes: &[u8],
+    x: DossierShape,
+    label: &mut [u8],
+    first: &mut [u16],
+    next: &mut [u16],
+    done: &mut [u8],
+    numbers: &mut [u16],
+    places: &mut [u16],
+    out: &mut [u8],
+) -> Built
+    requires { ⌜ Buildable (now bytes) x ⌝ }
+    requires { ⌜ (length (now label) ≡ 65536) × (length (now first) ≡ 65536) × (length (now next) ≡ 65536) ⌝ }
+    requires { ⌜ (length (now done) ≡ 65536) × (length (now numbers) ≡ 65536) × (length (now places) ≡ 65536) ⌝ }
+    ensures { λ r. ⌜ BuildPromise (now (bytes .entry)) (now (out .entry)) r (now (out .exit)) ⌝ }
+{
+    match grow_needed(bytes, x, label, first, next, done, numbers, places) {
+        Grown::Nodes(_) => build_planted(bytes, x, label, first, next, out),
+        Grown::Full => Built::Refused(Refusal::NoRoom(OVER_SIZE)),
+    }
+}
+
+// Of a dossier that none of 1 to 10 refuses.
+fn build_sound(bytes: &[u8], x: DossierShape, out: &mut [u8]) -> Built
+    requires { ⌜ Buildable (now bytes) x ⌝ }
+    ensures { λ r. ⌜ BuildPromise (now (bytes .entry)) (now (out .entry)) r (now (out .exit)) ⌝ }
+{
+    let mut label = node_bytes();
+    let mut first = node_links();
+    let mut next = node_links();
+    let mut done = node_bytes();
+    let mut numbers = node_links();
+    let mut places = node_links();
+    build_in(
+        bytes,
+        x,
+        &mut label,
+        &mut first,
+        &mut next,
+        &mut done,
+        &mut numbers,
+        &mut places,
+        out,
+    )
+}
+
+pub fn build(dossier: &[u8], out: &mut [u8]) -> Built
+    ensures { λ r. ⌜ BuildPromise (now (dossier .entry)) (now (out .entry)) r (now (out .exit)) ⌝ }
+{
+    match read_sound(dossier) {
+        DossierRead::Holds(x) => build_sound(dossier, x, out),
+        DossierRead::Refused(r) => Built::Refused(r),
+    }
+}
