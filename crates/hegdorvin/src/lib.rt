@@ -1,0 +1,52 @@
+// The library for callers in other languages: each operation once, its answer packed into one number.
+mod pack;
+
+use builder::build;
+use checker::check;
+use comparer::compare;
+use pack::built;
+use pack::checked;
+use pack::compared;
+use pack::costed;
+use pack::ran;
+use runner::cost;
+use runner::run;
+ghost use mathlib.Core.Path.{_≡_};
+ghost use Rattle.rules.specs.Answers.{checkSays, buildSays, runSays, compareSays, costSays};
+ghost use Rattle.rules.specs.Operations.{checkAnswer, buildAnswer, buildOutput, runAnswer, compareAnswer, compareOutput, costAnswer};
+ghost use Rattle.hegdorvin.specs.Packed.{packed};
+
+#[no_mangle]
+pub extern "C" fn hegdorvin_check(dossier: &[u8]) -> u64
+    ensures { λ r. ⌜ r ≡ packed (checkSays (checkAnswer (now (dossier .entry)))) ⌝ }
+{
+    checked(check(dossier))
+}
+
+#[no_mangle]
+pub extern "C" fn hegdorvin_build(dossier: &[u8], out: &mut [u8]) -> u64
+    ensures { λ r. ⌜ (r ≡ packed (buildSays (buildAnswer (now (dossier .entry)) (now (out .entry))))) × (now (out .exit) ≡ buildOutput (now (dossier .entry)) (now (out .entry))) ⌝ }
+{
+    built(build(dossier, out))
+}
+
+#[no_mangle]
+pub extern "C" fn hegdorvin_run(dossier: &[u8], unit: &[u8]) -> u64
+    ensures { λ r. ⌜ r ≡ packed (runSays (runAnswer (now (dossier .entry)) (now (unit .entry)))) ⌝ }
+{
+    ran(run(dossier, unit))
+}
+
+#[no_mangle]
+pub extern "C" fn hegdorvin_compare(dossier: &[u8], unit: &[u8], out: &mut [u8]) -> u64
+    ensures { λ r. ⌜ (r ≡ packed (compareSays (compareAnswer (now (dossier .entry)) (now (unit .entry)) (now (out .entry))))) × (now (out .exit) ≡ compareOutput (now (dossier .entry)) (now (unit .entry)) (now (out .entry))) ⌝ }
+{
+    compared(compare(dossier, unit, out))
+}
+
+#[no_mangle]
+pub extern "C" fn hegdorvin_cost(dossier: &[u8]) -> u64
+    ensures { λ r. ⌜ r ≡ packed (costSays (costAnswer (now (dossier .entry)))) ⌝ }
+{
+    costed(cost(dossier))
+}
