@@ -21,3 +21,4 @@ pub mod pack;
 pub mod refusal;
 pub mod run;
 pub mod sizes;
+pub mod worked;

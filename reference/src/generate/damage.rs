@@ -15,6 +15,19 @@ pub fn damaged(dice: &mut Dice, mut bytes: Vec<u8>, most: usize) -> Vec<u8> {
     bytes
 }
 
+/// The beginning of a file, often none of it, and then any bytes, often small ones.
+pub fn thrown(dice: &mut Dice, mut bytes: Vec<u8>) -> Vec<u8> {
+    let kept = dice.below(bytes.len() + 1);
+    bytes.truncate(if dice.one_in(2) { kept } else { 0 });
+    let limit = *dice.pick(&[2, 4, 20, 255]);
+    bytes.extend(
+        (0..dice.below(120))
+            .map(|_| dice.byte_below(limit))
+            .collect::<Vec<_>>(),
+    );
+    bytes
+}
+
 /// Often near the front, where the numbers and the counts stand.
 fn change_one_byte(dice: &mut Dice, bytes: &mut [u8]) {
     if bytes.is_empty() {

@@ -10,10 +10,14 @@ mod edges;
 mod limits;
 mod machines;
 mod sheets;
+mod timed;
 mod units;
+mod worst;
 
 pub use dice::Dice;
 pub use edges::edges;
+pub use timed::{timed, Timed};
+pub use worst::worst;
 
 use crate::build::built_bytes;
 use crate::compare::compared;
@@ -46,6 +50,27 @@ pub fn plain_case(seed: u64, number: u64) -> Case {
     let mut dice = Dice::new(seed, number);
     let draft = dossiers::plain_draft(&mut dice);
     case_of(&mut dice, draft)
+}
+
+/// One case of a seed whose dossier is at a limit: many of these take long to make.
+pub fn limit_case(seed: u64, number: u64) -> Case {
+    let mut dice = Dice::new(seed, number);
+    let draft = limits::draft(&mut dice);
+    case_of(&mut dice, draft)
+}
+
+/// The same case with a damaged dossier.
+pub fn with_damaged_dossier(dice: &mut Dice, case: &Case) -> Case {
+    let mut spoilt = case.clone();
+    spoilt.dossier = damage::damaged(dice, spoilt.dossier, MOST_DOSSIER_BYTES);
+    spoilt
+}
+
+/// The same case with a dossier that begins as it did and goes on with bytes of any sort.
+pub fn with_thrown_dossier(dice: &mut Dice, case: &Case) -> Case {
+    let mut thrown = case.clone();
+    thrown.dossier = damage::thrown(dice, thrown.dossier);
+    thrown
 }
 
 fn case_of(dice: &mut Dice, draft: Dossier) -> Case {

@@ -1,20 +1,11 @@
-//! The worked pieces of document 01 as values, and short ways to write words and files.
+//! The worked pieces of document 01 as bytes, and short ways to write sheets and places.
 
-use reference::files::{Dossier, Record, Sheet, Unit};
-use reference::machine::{
-    Answer, GoldenState, Input, Machine, Output, State, Step, UnitState, Word,
-};
+pub use reference::worked::*;
+
+use reference::files::{Record, Sheet};
+use reference::machine::Answer;
 use reference::refusal::{File, Place};
-
-/// A word from its digits, as document 01 writes words.
-pub fn word(digits: &str) -> Word {
-    let digit = |digit: char| digit.to_digit(16).expect("a hex digit") as u8;
-    digits.chars().map(|input| Input(digit(input))).collect()
-}
-
-pub fn words(list: &[&str]) -> Vec<Word> {
-    list.iter().map(|digits| word(digits)).collect()
-}
+use std::process::Output;
 
 /// Bytes from hex, two digits a byte, with spaces between.
 pub fn hex(text: &str) -> Vec<u8> {
@@ -22,55 +13,15 @@ pub fn hex(text: &str) -> Vec<u8> {
     text.split_whitespace().map(byte).collect()
 }
 
-/// A machine from its entries, by state and then by input: next state, output.
-pub fn machine<S: State>(inputs: u8, entries: &[(u8, u8)]) -> Machine<S> {
-    let steps = entries.iter().map(|&(next, output)| Step {
-        next: S::numbered(next),
-        output: Output(output),
-    });
-    Machine {
-        inputs,
-        steps: steps.collect(),
-    }
-}
-
-/// Golden G of document 01.
-pub fn golden_g() -> Machine<GoldenState> {
-    machine(2, &[(0, 0), (1, 0), (0, 1), (1, 0)])
-}
-
-/// Unit V of document 01.
-pub fn unit_v() -> Unit {
-    machine::<UnitState>(2, &[(2, 0), (1, 0), (0, 1), (1, 0), (2, 0), (2, 0)])
-}
-
-/// A dossier of G with its cover and its separating word.
-pub fn dossier_g(bound_byte: u8, tests: &[&str]) -> Dossier {
-    Dossier {
-        golden: golden_g(),
-        bound_byte,
-        cover: words(&["", "1"]),
-        separating: words(&["0"]),
-        tests: words(tests),
-    }
-}
-
-/// The golden of document 01 with one state, one input and output 0.
-pub fn dossier_of_one_state(bound_byte: u8, tests: &[&str]) -> Dossier {
-    Dossier {
-        golden: machine(1, &[(0, 0)]),
-        bound_byte,
-        cover: words(&[""]),
-        separating: words(&[""]),
-        tests: words(tests),
-    }
-}
-
 /// A sheet from words and their answers.
 pub fn sheet(records: &[(&str, &[u8])]) -> Sheet {
     let records = records.iter().map(|(digits, outputs)| Record {
         word: word(digits),
-        answer: outputs.iter().copied().map(Output).collect::<Answer>(),
+        answer: outputs
+            .iter()
+            .copied()
+            .map(reference::machine::Output)
+            .collect::<Answer>(),
     });
     Sheet {
         records: records.collect(),
@@ -118,4 +69,11 @@ pub fn in_sheet(byte: usize) -> Place {
         file: File::Sheet,
         byte,
     }
+}
+
+/// What a program tells that prints nothing and ends with a status.
+pub fn told(output: &Output, status: i32) -> String {
+    assert_eq!(output.status.code(), Some(status));
+    assert!(output.stdout.is_empty());
+    String::from_utf8(output.stderr.clone()).unwrap()
 }

@@ -1,6 +1,7 @@
 //! What holds the second program to document 01.
 
 mod common;
+mod compared;
 mod definitions;
 mod examples;
 mod packing;
@@ -8,4 +9,5 @@ mod program;
 mod properties;
 mod readings;
 mod rows;
+mod timed;
 mod worked_pieces;

@@ -173,13 +173,8 @@ fn shaped<Answer>(
 }
 
 fn assert_packed(case: &Case) {
-    let Case {
-        dossier,
-        unit,
-        sheet,
-        output_length,
-    } = case;
-    let output = || vec![0; *output_length];
+    let (dossier, unit) = (&case.dossier, &case.unit);
+    let output = || vec![0; case.output_length];
     let checked = shaped(check(dossier), |_| (true, 0, 0));
     assert_eq!(unpacked(pack::check(dossier)), checked);
     let built = shaped(build(dossier, &mut output()), |built| {
@@ -202,7 +197,7 @@ fn assert_packed(case: &Case) {
     );
     let costs = shaped(cost(dossier), |cost| (true, cost.tests, cost.inputs));
     assert_eq!(unpacked(pack::cost(dossier)), costs);
-    assert_judge_packed(dossier, sheet);
+    assert_judge_packed(dossier, &case.sheet);
 }
 
 fn assert_judge_packed(dossier: &[u8], sheet: &[u8]) {

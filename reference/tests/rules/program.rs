@@ -36,11 +36,15 @@ fn line(folder: &Path, arguments: &[&str]) -> String {
 #[test]
 fn run_prints_the_line_of_document_01() {
     let folder = folder("run");
-    fs::write(folder.join("golden"), dossier_54()).unwrap();
     fs::write(folder.join("unit"), unit_v_bytes()).unwrap();
-    assert_eq!(line(&folder, &["run", "."]), "FAILS 1 2 010 1 0\n");
-    fs::write(folder.join("golden"), dossier_37()).unwrap();
-    assert_eq!(line(&folder, &["run", "."]), "REFUSED 16\n");
+    let lines = [
+        (dossier_54(), "FAILS 1 2 010 1 0\n"),
+        (dossier_37(), "REFUSED 16\n"),
+    ];
+    for (golden, printed) in lines {
+        fs::write(folder.join("golden"), golden).unwrap();
+        assert_eq!(line(&folder, &["run", "."]), printed);
+    }
 }
 
 #[test]
@@ -135,10 +139,7 @@ fn build_writes_the_file_or_leaves_it() {
 fn a_file_that_cannot_be_written_is_told() {
     let folder = folder("unwritten");
     fs::write(folder.join("old"), dossier_37()).unwrap();
-    let output = call(&folder, &["build", "old", "nowhere/out"]);
-    assert_eq!(output.status.code(), Some(1));
-    assert!(output.stdout.is_empty());
-    let told = String::from_utf8(output.stderr).unwrap();
+    let told = told(&call(&folder, &["build", "old", "nowhere/out"]), 1);
     assert!(told.contains("cannot write nowhere/out"));
 }
 
@@ -153,10 +154,7 @@ fn wrong_usage_is_told_and_has_status_2() {
         &["build", "a"],
     ];
     for arguments in wrong {
-        let output = call(&folder, arguments);
-        assert_eq!(output.status.code(), Some(2));
-        assert!(output.stdout.is_empty());
-        let told = String::from_utf8(output.stderr).unwrap();
+        let told = told(&call(&folder, arguments), 2);
         assert!(told.starts_with("usage: reference run FOLDER"));
     }
 }

@@ -1,5 +1,6 @@
 //! The program that prints rows: what it prints for a seed, and its exit status.
 
+use crate::common::told;
 use std::process::{Command, Output};
 
 fn rows(arguments: &[&str]) -> Output {
@@ -39,9 +40,7 @@ fn each_kind_of_answer_has_its_rows() {
 #[test]
 fn wrong_usage_is_told() {
     for arguments in [&[][..], &["1"], &["1", "x"], &["1", "1", "1"]] {
-        let output = rows(arguments);
-        assert_eq!(output.status.code(), Some(2));
-        assert!(output.stdout.is_empty());
-        assert!(String::from_utf8_lossy(&output.stderr).starts_with("usage: rows SEED COUNT"));
+        let told = told(&rows(arguments), 2);
+        assert!(told.starts_with("usage: rows SEED COUNT"));
     }
 }

@@ -33,6 +33,15 @@ fn checked(dossier: &Dossier) -> Result<Accepted, Refusal> {
     check(&write_dossier(dossier))
 }
 
+/// MISSING of the first cover word, a middle and the first separating word.
+fn missing_behind_first_words(middle: &str) -> Refusal {
+    Refusal::Missing {
+        cover: 0,
+        middle: word(middle),
+        separator: 0,
+    }
+}
+
 #[test]
 fn m_2_needs_and_builds() {
     let dossier = dossier_g(2, &[]);
@@ -86,22 +95,14 @@ fn m_3_builds_54_bytes() {
 
 #[test]
 fn m_3_with_the_tests_of_m_2_is_missing() {
-    let missing = Refusal::Missing {
-        cover: 0,
-        middle: word("00"),
-        separator: 0,
-    };
+    let missing = missing_behind_first_words("00");
     let dossier = dossier_g(3, &["00", "100", "110"]);
     assert_eq!(checked(&dossier), Err(missing));
 }
 
 #[test]
 fn m_3_with_the_test_00_alone_misses_middle_1() {
-    let missing = Refusal::Missing {
-        cover: 0,
-        middle: word("1"),
-        separator: 0,
-    };
+    let missing = missing_behind_first_words("1");
     assert_eq!(checked(&dossier_g(3, &["00"])), Err(missing));
 }
 
@@ -192,11 +193,7 @@ fn one_state_with_separating_emptied_is_9() {
 /// test alone is too little.
 #[test]
 fn one_state_with_the_empty_test_is_missing() {
-    let missing = Refusal::Missing {
-        cover: 0,
-        middle: word("0"),
-        separator: 0,
-    };
+    let missing = missing_behind_first_words("0");
     assert_eq!(checked(&dossier_of_one_state(1, &[""])), Err(missing));
 }
 
