@@ -1,7 +1,10 @@
-// Times the library against the C that was written by hand, on the dossiers that are named. Both must answer alike.
+// Times the library against the C that was written by hand, on the dossiers that are named and their units. Both must answer
+// alike and leave the same output.
 //
-//   bench [NAME FILE]...   a table: the name, the bytes, the code of the answer, the best time of each, the library's over C's
+//   bench [NAME DOSSIER UNIT]...   a table: the operation, the name, the bytes of the dossier, the code of the answer, the
+//                                  best time of each, the library's over C's; and one of the stack that the library takes
 #include "baseline.h"
+#include "stack.h"
 
 struct time {
     long seconds, nanoseconds;
@@ -16,44 +19,72 @@ int strncmp(const char *one, const char *other, size length);
 enum {
     MONOTONIC = 1,
     ROUNDS = 40,
-    ROUND_NS = 4000000, // how long a round of calls of one program takes at least
-    MOST_RATIO = 3,     // for a built dossier of 60 KB
+    ROUND_NS = 2000000, // how long a round of calls of one program takes at least
     MOST_MS = 1000,     // for any dossier
 };
 
-typedef u64 operation(const byte *dossier, size length);
-
-// An operation of the library, and the same by hand.
-static const struct timed {
-    const char *name;
-    operation *both[2];
-} operations[] = {
-    {"check", {hegdorvin_check, baseline_check}},
+struct file {
+    byte bytes[1 << 17];
+    size length;
 };
 
-static byte file[1 << 17];
-static size file_length;
+static struct file dossier, unit;
+static byte output[1 << 16], library_output[1 << 16];
+
+static u64 library_check(void) { return hegdorvin_check(dossier.bytes, dossier.length); }
+static u64 c_check(void) { return baseline_check(dossier.bytes, dossier.length); }
+
+static u64 library_build(void) { return hegdorvin_build(dossier.bytes, dossier.length, output, sizeof output); }
+static u64 c_build(void) { return baseline_build(dossier.bytes, dossier.length, output, sizeof output); }
+
+static u64 library_run(void) { return hegdorvin_run(dossier.bytes, dossier.length, unit.bytes, unit.length); }
+static u64 c_run(void) { return baseline_run(dossier.bytes, dossier.length, unit.bytes, unit.length); }
+
+static u64 library_compare(void)
+{
+    return hegdorvin_compare(dossier.bytes, dossier.length, unit.bytes, unit.length, output, sizeof output);
+}
+static u64 c_compare(void)
+{
+    return baseline_compare(dossier.bytes, dossier.length, unit.bytes, unit.length, output, sizeof output);
+}
+
+// An operation of the library, the same by hand, how many times as long the library may take for a built dossier of 60 KB, and the
+// most bytes of stack that it took.
+static struct timed {
+    const char *name;
+    operation *both[2];
+    int most_ratio;
+    size stack;
+} operations[] = {
+    {"check", {library_check, c_check}, 3, 0},
+    {"build", {library_build, c_build}, 3, 0},
+    {"run", {library_run, c_run}, 3, 0},
+    {"compare", {library_compare, c_compare}, 5, 0},
+};
+
+enum { OPERATIONS = sizeof operations / sizeof *operations };
 
 // Kept where the compiler cannot tell that it is not looked at.
 static volatile u64 answer;
 
-static void read_file(const char *path)
+static void read_file(const char *path, struct file *file)
 {
     int from = open(path, 0);
-    long got = from < 0 ? -1 : read(from, file, sizeof file);
+    long got = from < 0 ? -1 : read(from, file->bytes, sizeof file->bytes);
     if (got < 0) {
         printf("bench: %s cannot be read\n", path);
         exit(1);
     }
     close(from);
-    file_length = (size)got;
+    file->length = (size)got;
 }
 
 static long nanoseconds(operation *called, long calls)
 {
     struct time start, end;
     clock_gettime(MONOTONIC, &start);
-    for (long i = 0; i < calls; i++) answer = called(file, file_length);
+    for (long i = 0; i < calls; i++) answer = called();
     clock_gettime(MONOTONIC, &end);
     return (end.seconds - start.seconds) * 1000000000 + end.nanoseconds - start.nanoseconds;
 }
@@ -77,37 +108,58 @@ static void best_times(operation *const both[2], double best[2])
     }
 }
 
-static int within_limits(const char *name, const double best[2])
+static int within_limits(const struct timed *timed, const char *name, const double best[2])
 {
     static const char limited[] = "built, 60 KB";
-    if (strncmp(name, limited, sizeof limited - 1) == 0 && best[0] > MOST_RATIO * best[1]) return 0;
+    if (strncmp(name, limited, sizeof limited - 1) == 0 && best[0] > timed->most_ratio * best[1]) return 0;
     return best[0] <= MOST_MS;
 }
 
-// Prints the row of an operation on the file. Whether the library's answer and its time are as they are to be.
+// Whether both answer alike and leave the same output.
+static int alike(const struct timed *timed, const char *name)
+{
+    memset(output, 0, sizeof output);
+    u64 library = timed->both[0]();
+    memcpy(library_output, output, sizeof output);
+    memset(output, 0, sizeof output);
+    u64 c = timed->both[1]();
+    if (library == c && memcmp(library_output, output, sizeof output) == 0) return 1;
+    printf("bench: %s of %s: the library answers %#lx, C %#lx\n", timed->name, name, library, c);
+    return 0;
+}
+
+// Prints the row of an operation on the files. Whether the library's answer and its time are as they are to be.
 static int time_operation(const struct timed *timed, const char *name)
 {
     double best[2];
-    u64 library = timed->both[0](file, file_length), c = timed->both[1](file, file_length);
-    if (library != c) {
-        printf("bench: %s of %s: the library answers %#lx, C %#lx\n", timed->name, name, library, c);
-        return 0;
-    }
+    if (!alike(timed, name)) return 0;
     best_times(timed->both, best);
-    int within = within_limits(name, best);
-    printf("| %s | %s | %lu | %lu | %.3f | %.3f | %.2f%s |\n", timed->name, name, file_length, library & 31, best[0],
+    int within = within_limits(timed, name, best);
+    printf("| %s | %s | %lu | %lu | %.3f | %.3f | %.2f%s |\n", timed->name, name, dossier.length, answer & 31, best[0],
            best[1], best[0] / best[1], within ? "" : ", over the limit");
     return within;
+}
+
+static void measure_stack(struct timed *timed)
+{
+    size stack = stack_of(timed->both[0]);
+    if (stack > timed->stack) timed->stack = stack;
 }
 
 int main(int count, char **words)
 {
     int good = 1;
     printf("| operation | dossier | bytes | code | library, ms | C, ms | ratio |\n|---|---|---|---|---|---|---|\n");
-    for (int i = 1; i + 1 < count; i += 2) {
-        read_file(words[i + 1]);
-        for (size j = 0; j < sizeof operations / sizeof *operations; j++) good &= time_operation(&operations[j], words[i]);
+    for (int i = 1; i + 2 < count; i += 3) {
+        read_file(words[i + 1], &dossier);
+        read_file(words[i + 2], &unit);
+        for (int j = 0; j < OPERATIONS; j++) {
+            good &= time_operation(&operations[j], words[i]);
+            measure_stack(&operations[j]);
+        }
     }
+    printf("\n| operation | most stack, bytes |\n|---|---|\n");
+    for (int j = 0; j < OPERATIONS; j++) printf("| %s | %lu |\n", operations[j].name, operations[j].stack);
     printf(good ? "within the limits\n" : "not within the limits\n");
     return !good;
 }

@@ -1,15 +1,16 @@
-// Reading a dossier, front to back.
+// Reading a dossier or a unit, front to back.
 #include "dossier.h"
 
 struct reader {
     const byte *bytes;
     size length, place;
+    u64 file;
     u64 refused; // 0 as long as nothing is
 };
 
 static int refuse(struct reader *r, u64 number, size place)
 {
-    r->refused = refusal(number, place, 0);
+    r->refused = refusal_of(r->file, number, place, 0);
     return 0;
 }
 
@@ -42,24 +43,29 @@ static int get_number(struct reader *r, u32 most, u32 *number)
     return (1 <= *number && *number <= most) || refuse(r, BAD_NUMBERS, r->place - 1);
 }
 
-static int get_numbers(struct reader *r, struct dossier *d)
+// How many numbers there are, and the first two of them.
+static int get_sizes(struct reader *r, size numbers, u32 *inputs, u32 *states)
 {
-    if (!get_fixed_count(r, 3, BAD_NUMBERS)) return 0;
-    if (!get_number(r, MOST_INPUTS, &d->inputs) || !get_number(r, MOST_STATES, &d->states)) return 0;
+    return get_fixed_count(r, numbers, BAD_NUMBERS) && get_number(r, MOST_INPUTS, inputs) &&
+           get_number(r, MOST_STATES, states);
+}
+
+static int get_bound(struct reader *r, struct dossier *d)
+{
     if (!get_byte(r, &d->bound)) return 0;
     if (d->bound == 0) d->bound = d->states;
     u32 highest = d->states + MOST_EXTRA < MOST_STATES ? d->states + MOST_EXTRA : MOST_STATES;
     return (d->states <= d->bound && d->bound <= highest) || refuse(r, BAD_NUMBERS, r->place - 1);
 }
 
-static int get_table(struct reader *r, struct dossier *d)
+static int get_table(struct reader *r, u32 inputs, u32 states, const byte **table)
 {
-    if (!get_fixed_count(r, d->states * d->inputs, BAD_TABLE)) return 0;
-    d->table = r->bytes + r->place;
-    for (u32 left = d->states * d->inputs; left > 0; left--) {
+    if (!get_fixed_count(r, states * inputs, BAD_TABLE)) return 0;
+    *table = r->bytes + r->place;
+    for (u32 left = states * inputs; left > 0; left--) {
         u32 next, shown;
         if (!get_byte(r, &next)) return 0;
-        if (next >= d->states) return refuse(r, BAD_TABLE, r->place - 1);
+        if (next >= states) return refuse(r, BAD_TABLE, r->place - 1);
         if (!get_byte(r, &shown)) return 0;
     }
     return 1;
@@ -82,13 +88,27 @@ static int get_words(struct reader *r, const struct dossier *d, u32 longest, str
     return 1;
 }
 
+static u64 end(struct reader *r, int read)
+{
+    if (read && r->place < r->length) refuse(r, TRAILING, r->place);
+    return r->refused;
+}
+
 u64 read_dossier(const byte *bytes, size length, struct dossier *d)
 {
-    struct reader r = {bytes, length, 0, 0};
+    struct reader r = {bytes, length, 0, DOSSIER, 0};
     if (length > MOST_BYTES) return refusal(TOO_LONG, 0, 0);
     d->bytes = bytes;
-    int read = get_numbers(&r, d) && get_table(&r, d) && get_words(&r, d, LONGEST_WORD, &d->cover) &&
+    int read = get_sizes(&r, 3, &d->inputs, &d->states) && get_bound(&r, d) &&
+               get_table(&r, d->inputs, d->states, &d->table) && get_words(&r, d, LONGEST_WORD, &d->cover) &&
                get_words(&r, d, LONGEST_WORD, &d->separating) && get_words(&r, d, LONGEST_TEST, &d->tests);
-    if (read && r.place < length) refuse(&r, TRAILING, r.place);
-    return r.refused;
+    return end(&r, read);
+}
+
+u64 read_unit(const byte *bytes, size length, struct unit *u)
+{
+    struct reader r = {bytes, length, 0, UNIT, 0};
+    if (length > MOST_BYTES) return refusal_of(UNIT, TOO_LONG, 0, 0);
+    int read = get_sizes(&r, 2, &u->inputs, &u->states) && get_table(&r, u->inputs, u->states, &u->table);
+    return end(&r, read);
 }

@@ -1,4 +1,4 @@
-// A dossier that is well formed: its numbers, and where its sections stand.
+// A dossier or a unit that is well formed: its numbers, and where its sections stand.
 #ifndef DOSSIER_H
 #define DOSSIER_H
 
@@ -25,7 +25,13 @@ enum {
     NO_SEPARATOR,
     NOT_SEPARATED,
     MISSING,
+    OTHER_INPUTS = 15,
+    TOO_MANY_STATES,
+    NO_ROOM,
 };
+
+// What a refusal can concern.
+enum { DOSSIER = 1, UNIT, OUTPUT = 4 };
 
 // The place of the first word and how many there are.
 struct section {
@@ -40,13 +46,26 @@ struct dossier {
     struct section cover, separating, tests;
 };
 
-// 0, or the packed refusal of 1 to 6.
+struct unit {
+    u32 inputs, states;
+    const byte *table;
+};
+
+// Each answers 0, or the packed refusal: of 1 to 6; of 1 to 10; of 1 to 11; of 1 to 6.
 u64 read_dossier(const byte *bytes, size length, struct dossier *dossier);
+u64 read_sound(const byte *bytes, size length, struct dossier *dossier);
+u64 read_accepted(const byte *bytes, size length, struct dossier *dossier);
+u64 read_unit(const byte *bytes, size length, struct unit *unit);
+
+static inline u64 refusal_of(u64 file, u64 number, u64 first, u64 second)
+{
+    return number | file << 5 | first << 8 | second << 32;
+}
 
 // A refusal of a dossier with its values.
 static inline u64 refusal(u64 number, u64 first, u64 second)
 {
-    return number | 1 << 5 | first << 8 | second << 32;
+    return refusal_of(DOSSIER, number, first, second);
 }
 
 static inline u32 next_state(const struct dossier *d, u32 state, u32 input)

@@ -37,20 +37,26 @@ static inline u32 child(const struct trie *t, u32 node, byte label)
     return at;
 }
 
-// The node of a word, which is a length byte and its inputs. The words of one file never fill the trie.
-static inline u32 insert(struct trie *t, const byte *word)
+// The node under another with a label, made if there is none; 0 where the trie is full.
+static inline u32 step(struct trie *t, u32 node, byte label)
 {
-    u32 node = 0;
+    u32 to = child(t, node, label);
+    if (to != 0 || t->nodes == MOST_NODES) return to;
+    to = t->nodes;
+    add_node(t, label, t->first[node]);
+    t->first[node] = (u16)to;
+    return to;
+}
+
+// Puts a word, which is a length byte and its inputs, in from a node: 1 and the node there, or 0 where the trie is full.
+static inline int insert(struct trie *t, u32 node, const byte *word, u32 *there)
+{
     for (const byte *input = word + 1, *end = input + *word; input < end; input++) {
-        u32 to = child(t, node, *input);
-        if (to == 0) {
-            to = t->nodes;
-            add_node(t, *input, t->first[node]);
-            t->first[node] = (u16)to;
-        }
-        node = to;
+        node = step(t, node, *input);
+        if (node == 0) return 0;
     }
-    return node;
+    *there = node;
+    return 1;
 }
 
 // From a node along a word: 1 and the node there, or 0.

@@ -16,5 +16,9 @@ void *memset(void *to, int value, size length);
 _Noreturn void exit(int status);
 
 u64 hegdorvin_check(const byte *dossier, size length);
+u64 hegdorvin_build(const byte *dossier, size length, byte *out, size room);
+u64 hegdorvin_run(const byte *dossier, size length, const byte *unit, size unit_length);
+u64 hegdorvin_cost(const byte *dossier, size length);
+u64 hegdorvin_compare(const byte *dossier, size length, const byte *unit, size unit_length, byte *out, size room);
 
 #endif

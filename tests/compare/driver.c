@@ -6,10 +6,9 @@
 #include "native.h"
 
 enum {
-    MOST = 1 << 18,   // the most bytes of a file or an output
-    GUARD = 64,       // the bytes before and after each that no call may change
+    MOST = 1 << 18, // the most bytes of a file or an output
+    GUARD = 64,     // the bytes before and after each that no call may change
     CANARY = 0xC5,
-    UNWRITTEN = 0xEE, // what an output holds before the call
 };
 
 // A lent file or output between its guards, and a copy of the file as it came.
@@ -20,6 +19,9 @@ struct lent {
 };
 
 static struct lent first, second, output;
+
+// What an output holds before the call.
+static byte unwritten[MOST];
 
 static byte in[1 << 16], out[1 << 16];
 static size in_place, in_length, out_length;
@@ -36,9 +38,14 @@ static void flush(void)
 
 static void put(const byte *bytes, size length)
 {
-    for (size i = 0; i < length; i++) {
+    while (length > 0) {
         if (out_length == sizeof out) flush();
-        out[out_length++] = bytes[i];
+        size part = sizeof out - out_length;
+        if (part > length) part = length;
+        memcpy(out + out_length, bytes, part);
+        out_length += part;
+        bytes += part;
+        length -= part;
     }
 }
 
@@ -103,19 +110,43 @@ static u64 call(u32 operation)
 {
     switch (operation) {
     case 0: return hegdorvin_check(place(&first), first.length);
+    case 1: return hegdorvin_build(place(&first), first.length, place(&output), output.length);
+    case 2: return hegdorvin_run(place(&first), first.length, place(&second), second.length);
+    case 3: return hegdorvin_cost(place(&first), first.length);
+    case 4:
+        return hegdorvin_compare(place(&first), first.length, place(&second), second.length, place(&output), output.length);
     default: exit(3);
     }
 }
 
 #ifdef WRONG
-// What a wrong library could do, now and then: 1 answers otherwise, 2 changes a lent file, 3 changes a byte after it.
+// The byte that a wrong library could change, or none where this call has no such byte.
+static byte *spoilt_byte(u64 answer)
+{
+    size built = (answer & 31) == 0 ? answer >> 8 & 0xFFFFFF : 0;
+    switch (WRONG) {
+    case 2: return place(&first);
+    case 3: return first.bytes + GUARD + first.length;
+    case 4: return place(&second);
+    case 5: return output.bytes + GUARD - 1;
+    case 6: return output.bytes + GUARD + output.length;
+    case 7: return built == 0 ? place(&output) : 0;
+    case 8: return 0 < built && built < output.length ? output.bytes + GUARD + built : 0;
+    default: return 0;
+    }
+}
+
+// What a wrong library could do, now and then: 1 answers otherwise; 2 changes the first file, 3 the byte after it, 4 the
+// second file, 5 the byte before the output, 6 the byte after it, 7 the output of a refusal, 8 the byte after a built dossier.
 static u64 spoilt(u64 answer)
 {
     static u32 calls;
-    if (++calls % 1000 != 0) return answer;
-    if (WRONG == 2) first.bytes[GUARD] ^= 1;
-    if (WRONG == 3) first.bytes[GUARD + first.length] ^= 1;
-    return WRONG == 1 ? answer ^ 1ul << 8 : answer;
+    byte *changed = spoilt_byte(answer);
+    if (WRONG != 1 && changed == 0) return answer;
+    if (++calls % 101 != 0) return answer;
+    if (WRONG == 1) return answer ^ 1ul << 8;
+    *changed ^= 1;
+    return answer;
 }
 #else
 static u64 spoilt(u64 answer)
@@ -145,8 +176,15 @@ static u64 harmed(void)
     return guards_harmed(&output) ? 3 : 0;
 }
 
+// Every byte is over 127, as no length and no input is, and differs from those beside it.
+static void fill_unwritten(void)
+{
+    for (size i = 0; i < MOST; i++) unwritten[i] = (byte)(128 | i);
+}
+
 int main(void)
 {
+    fill_unwritten();
     for (;;) {
         u32 operation = get_number();
         set_length(&first);
@@ -154,7 +192,7 @@ int main(void)
         set_length(&output);
         get_file(&first);
         get_file(&second);
-        memset(output.bytes + GUARD, UNWRITTEN, output.length);
+        memcpy(output.bytes + GUARD, unwritten, output.length);
         u64 answer = spoilt(call(operation));
         put_number(answer);
         put_number(harmed());

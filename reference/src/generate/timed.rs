@@ -1,17 +1,30 @@
-//! Dossiers to time the check on: built ones of several sizes, and the worst that could be thought
-//! of.
+//! Dossiers and units to time the operations on: built dossiers of several sizes, and the worst
+//! that could be thought of.
 
 use super::dossiers::found;
-use super::{machines, worst, Dice};
-use crate::build::built_bytes;
-use crate::files::write_dossier;
+use super::{machines, units, worst, Dice};
+use crate::build::built_tests;
+use crate::files::{write_dossier, write_unit, Dossier};
 use crate::sizes::{MOST_EXTRA_STATES, MOST_STATES};
 
-/// A dossier and what it is.
+/// A dossier and what it is, and a unit that passes all its tests, so that none is left out.
 #[derive(Clone)]
 pub struct Timed {
     pub name: String,
     pub dossier: Vec<u8>,
+    pub unit: Vec<u8>,
+}
+
+impl Timed {
+    /// With the largest unit that is the golden's equal.
+    pub fn new(name: String, dossier: &Dossier) -> Timed {
+        let unit = units::largest_equal(&mut Dice::new(1, 1), dossier);
+        Timed {
+            name,
+            dossier: write_dossier(dossier),
+            unit: write_unit(&unit),
+        }
+    }
 }
 
 /// The sizes of the built dossiers: a name, and the least and the most bytes.
@@ -30,11 +43,9 @@ pub fn timed() -> Vec<Timed> {
     for (size, least, most) in SIZES {
         for inputs in [2, 4, 16] {
             for extra in 0..=MOST_EXTRA_STATES {
+                let name = format!("built, {size}, k = {inputs}, m = n + {extra}");
                 let built = built(inputs, extra, least, most);
-                all.extend(built.map(|dossier| Timed {
-                    name: format!("built, {size}, k = {inputs}, m = n + {extra}"),
-                    dossier,
-                }));
+                all.extend(built.map(|dossier| Timed::new(name, &dossier)));
             }
         }
     }
@@ -44,14 +55,14 @@ pub fn timed() -> Vec<Timed> {
 
 /// A built dossier of a size over a random machine, if one is found: with two inputs and a low
 /// bound all are smaller, with sixteen and a high bound all are larger.
-fn built(inputs: u8, extra: u8, least: usize, most: usize) -> Option<Vec<u8>> {
+fn built(inputs: u8, extra: u8, least: usize, most: usize) -> Option<Dossier> {
     for states in 1..=MOST_STATES {
         let mut lengths = Vec::new();
         for number in 0..TRIES {
-            let bytes = built_of(inputs, states, extra, number);
-            let length = bytes.as_ref().map_or(usize::MAX, Vec::len);
+            let dossier = built_of(inputs, states, extra, number);
+            let length = dossier.as_ref().map_or(usize::MAX, length);
             if (least..=most).contains(&length) {
-                return bytes;
+                return dossier;
             }
             lengths.push(length);
         }
@@ -62,9 +73,14 @@ fn built(inputs: u8, extra: u8, least: usize, most: usize) -> Option<Vec<u8>> {
     None
 }
 
-fn built_of(inputs: u8, states: u8, extra: u8, number: u64) -> Option<Vec<u8>> {
+fn length(dossier: &Dossier) -> usize {
+    write_dossier(dossier).len()
+}
+
+fn built_of(inputs: u8, states: u8, extra: u8, number: u64) -> Option<Dossier> {
     let mut dice = Dice::new(number, u64::from(states));
     let golden = machines::random(&mut dice, inputs, states, 2);
     let dossier = found(machines::reduced(&golden), extra);
-    built_bytes(&write_dossier(&dossier)).ok()
+    let tests = built_tests(&dossier).ok()?;
+    Some(Dossier { tests, ..dossier })
 }

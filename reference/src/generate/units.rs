@@ -22,6 +22,13 @@ pub fn unit_for(dice: &mut Dice, dossier: &Dossier) -> Unit {
     unit
 }
 
+/// A unit that answers every word as the golden does, with as many states as the bound allows.
+pub fn largest_equal(dice: &mut Dice, dossier: &Dossier) -> Unit {
+    let mut unit = copy_of_golden(dossier);
+    split(dice, &mut unit, dossier.bound());
+    unit
+}
+
 fn copy_of_golden(dossier: &Dossier) -> Unit {
     let steps = dossier.golden.steps.iter().map(|step| Step {
         next: UnitState(step.next.0),

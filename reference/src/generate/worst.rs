@@ -1,4 +1,4 @@
-//! Dossiers on which a check has much to do.
+//! Dossiers on which an operation has much to do.
 
 use super::dossiers::with_built_tests;
 use super::machines;
@@ -18,14 +18,59 @@ pub fn worst() -> Vec<Timed> {
         timed("sixteen children at every step", &long_chains()),
         timed("tests that share nothing", &large_trie()),
     ];
-    [repeats(), latecomers(), others.to_vec()].concat()
+    [repeats(), latecomers(), others.to_vec(), too_large()].concat()
 }
 
 fn timed(name: &str, dossier: &Dossier) -> Timed {
-    Timed {
-        name: name.to_string(),
-        dossier: write_dossier(dossier),
+    Timed::new(name.to_string(), dossier)
+}
+
+/// Dossiers whose built tests would be far over the size.
+fn too_large() -> Vec<Timed> {
+    vec![
+        timed("over the size, 1,118,481 middles", &most_middles()),
+        timed("over the size, long separators", &most_separators()),
+        timed("over the size, few nodes", &long_tests()),
+        timed("over the size, much put in twice", &much_in_common()),
+    ]
+}
+
+/// One state, sixteen inputs, and the highest bound.
+fn most_middles() -> Dossier {
+    let mut dossier = one_state(16);
+    dossier.bound_byte = 5;
+    dossier
+}
+
+/// All words of at most seven inputs in the cover, and separators that share nothing.
+fn most_separators() -> Dossier {
+    let mut dossier = one_state(2);
+    let mut dice = Dice::new(1, 1);
+    let longest = usize::from(LONGEST_COVER_WORD);
+    dossier.cover = middles(2, 7).collect();
+    dossier.separating = (0..600).map(|_| dice.word(2, longest)).collect();
+    dossier
+}
+
+/// Thousands of middles behind a long cover word: their words share most of their inputs, which
+/// the tests would hold again and again.
+fn long_tests() -> Dossier {
+    let mut dossier = one_state(16);
+    dossier.bound_byte = 3;
+    dossier.cover.push(zeros(usize::from(LONGEST_COVER_WORD)));
+    dossier
+}
+
+/// Every separator of one input behind cover words that mostly end in that input: of what is
+/// needed behind one, most was already needed behind another.
+fn much_in_common() -> Dossier {
+    let mut dossier = one_state(2);
+    dossier.separating = (0..=usize::from(LONGEST_COVER_WORD)).map(zeros).collect();
+    for front in middles(2, 6) {
+        let words = (0..=20).map(|length| [front.clone(), zeros(length)].concat());
+        dossier.cover.extend(words);
     }
+    dossier
 }
 
 /// One word again and again, in the cover and among the separators.

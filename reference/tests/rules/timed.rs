@@ -1,4 +1,4 @@
-//! The dossiers to time the check on, and the program that writes them.
+//! The dossiers to time the operations on, and the program that writes them.
 
 use crate::common::told;
 use reference::check::check;
@@ -29,5 +29,5 @@ fn wrong_usage_of_timed_is_told() {
 fn a_folder_that_is_not_there_is_told() {
     let mut timed = Command::new(env!("CARGO_BIN_EXE_timed"));
     let output = timed.arg("no-such-folder").output().unwrap();
-    assert!(told(&output, 1).starts_with("timed: a dossier cannot be written"));
+    assert!(told(&output, 1).starts_with("timed: a file cannot be written"));
 }

@@ -1,5 +1,6 @@
 //! The cases that are tried: worked files and their damage, files at limits, and seeded ones.
 
+use reference::build::built_bytes;
 use reference::files::write_dossier;
 use reference::generate::{
     edges, limit_case, plain_case, with_damaged_dossier, with_thrown_dossier, worst, Case, Dice,
@@ -8,6 +9,7 @@ use reference::sizes::{MOST_DOSSIER_BYTES, MOST_SHEET_BYTES};
 use reference::worked;
 use std::fmt::{self, Display, Formatter};
 use std::io;
+use std::iter::once_with;
 use std::path::Path;
 
 /// A case and where it comes from, so that it can be made again.
@@ -35,18 +37,25 @@ const MADE_OF_ONE: u64 = 4;
 /// One draft in so many is at a limit; such a file takes a hundred times as long to make.
 const DRAFTS_FOR_A_LIMIT: u64 = 100;
 
-/// All cases, the seeded ones last and made as they are asked for.
+/// All cases, the seeded ones last. Each kind is made when it is asked for: a difference that is
+/// found early need not wait for the rest.
 pub fn all(seed: u64, count: usize, examples: &Path) -> io::Result<impl Iterator<Item = Tried>> {
     let example = read_example(examples)?;
     let worked = worked_cases(&example);
-    let damaged: Vec<Case> = worked.iter().flat_map(all_damage).collect();
+    let damaged = worked.clone().into_iter().flat_map(damaged_dossiers);
+    let roomy = worked.clone().into_iter().flat_map(rooms);
     let fixed = numbered("worked file", worked)
         .chain(numbered("damage to a worked file", damaged))
+        .chain(numbered("damage to a unit", damaged_units(&example)))
         .chain(numbered("edge", edges()))
         .chain(numbered("length", lengths(&example)))
-        .chain(numbered("worst dossier", worst_cases(&example)));
+        .chain(numbered("output", roomy));
+    let worst = once_with(move || worst_cases(&example)).flatten();
+    let worst = worst.flat_map(tight_rooms);
     let seeded = (0..).flat_map(move |draft| made_of_one(seed, draft));
-    Ok(fixed.chain(numbered("seeded case", seeded.take(count))))
+    Ok(fixed
+        .chain(numbered("worst dossier", worst))
+        .chain(numbered("seeded case", seeded.take(count))))
 }
 
 fn numbered(
@@ -84,43 +93,106 @@ fn with_dossier(case: &Case, dossier: Vec<u8>) -> Case {
     }
 }
 
-/// Each byte of the dossier changed to each value, each length cut, and bytes put behind it.
-fn all_damage(case: &Case) -> Vec<Case> {
-    let whole = &case.dossier;
+fn with_unit(case: &Case, unit: Vec<u8>) -> Case {
+    Case {
+        unit,
+        ..case.clone()
+    }
+}
+
+/// Each byte of a file changed to each value, each length cut, and bytes put behind it.
+fn all_damage(whole: &[u8]) -> Vec<Vec<u8>> {
     let mut files = Vec::new();
     for place in 0..whole.len() {
         files.push(whole[..place].to_vec());
         for value in 0..=u8::MAX {
-            let mut changed = whole.clone();
+            let mut changed = whole.to_vec();
             changed[place] = value;
             files.push(changed);
         }
     }
     for more in 1..=4 {
-        files.extend([0, 1, 255].map(|value| [whole.as_slice(), &vec![value; more]].concat()));
+        files.extend([0, 1, 255].map(|value| [whole, &vec![value; more]].concat()));
     }
-    let cases = files.into_iter().map(|file| with_dossier(case, file));
+    files
+}
+
+fn damaged_dossiers(case: Case) -> Vec<Case> {
+    let files = all_damage(&case.dossier).into_iter().enumerate();
+    let cases = files.map(|(number, file)| with_room_in_turn(number, with_dossier(&case, file)));
     cases.collect()
 }
 
-/// Files whose lengths stand around the most that a dossier or a sheet may have.
+fn damaged_units(case: &Case) -> Vec<Case> {
+    let files = all_damage(&case.unit).into_iter();
+    files.map(|file| with_unit(case, file)).collect()
+}
+
+/// The bytes that the built dossier takes. Where none is built the dossier's own length stands in,
+/// so that there is an output to leave alone.
+fn built_length(case: &Case) -> usize {
+    built_bytes(&case.dossier).map_or(case.dossier.len(), |built| built.len())
+}
+
+/// An output that the built dossier just fits, one that is a byte short, a longer one, and none.
+fn with_room_in_turn(number: usize, case: Case) -> Case {
+    let fitting = built_length(&case);
+    let lengths = [fitting, fitting.saturating_sub(1), fitting + 9, 0];
+    Case {
+        output_length: lengths[number % lengths.len()],
+        ..case
+    }
+}
+
+/// The case with outputs of all lengths that make a difference to a build, and some others.
+fn rooms(case: Case) -> Vec<Case> {
+    let fitting = built_length(&case);
+    let around = |length: usize| [length.saturating_sub(1), length, length + 1];
+    let mut lengths = [around(fitting), around(MOST_DOSSIER_BYTES)].concat();
+    lengths.extend([0, 1, fitting / 2, fitting + 300, MOST_SHEET_BYTES]);
+    with_rooms(&case, &lengths)
+}
+
+/// The case with an output for any dossier, with one that the built dossier just fits, and with one
+/// that is a byte short.
+fn tight_rooms(case: Case) -> Vec<Case> {
+    let fitting = built_length(&case);
+    with_rooms(&case, &[MOST_DOSSIER_BYTES, fitting, fitting - 1])
+}
+
+fn with_rooms(case: &Case, lengths: &[usize]) -> Vec<Case> {
+    let cases = lengths.iter().map(|&output_length| Case {
+        output_length,
+        ..case.clone()
+    });
+    cases.collect()
+}
+
+/// Files whose lengths stand around the most that a dossier, a unit or a sheet may have.
 fn lengths(case: &Case) -> Vec<Case> {
     let around = |most: usize| [most - 1, most, most + 1, most + 2];
     let lengths = [around(MOST_DOSSIER_BYTES), around(MOST_SHEET_BYTES)].concat();
-    let files = lengths.into_iter().flat_map(|length| {
-        let mut grown = case.dossier.clone();
-        grown.resize(length, 0);
-        [vec![0; length], vec![255; length], grown]
-    });
-    files.map(|file| with_dossier(case, file)).collect()
+    let files = |whole: &[u8]| {
+        let files = lengths.iter().flat_map(|&length| {
+            let mut grown = whole.to_vec();
+            grown.resize(length, 0);
+            [vec![0; length], vec![255; length], grown]
+        });
+        files.collect::<Vec<_>>().into_iter()
+    };
+    let dossiers = files(&case.dossier).map(|file| with_dossier(case, file));
+    let units = files(&case.unit).map(|file| with_unit(case, file));
+    dossiers.chain(units).collect()
 }
 
-/// The dossiers on which a check has most to do.
+/// The dossiers on which an operation has most to do, with units that pass all their tests.
 fn worst_cases(case: &Case) -> Vec<Case> {
-    let dossiers = worst().into_iter();
-    dossiers
-        .map(|timed| with_dossier(case, timed.dossier))
-        .collect()
+    let cases = worst().into_iter().map(|timed| Case {
+        dossier: timed.dossier,
+        unit: timed.unit,
+        ..case.clone()
+    });
+    cases.collect()
 }
 
 fn made_of_one(seed: u64, draft: u64) -> [Case; MADE_OF_ONE as usize] {

@@ -13,11 +13,9 @@ use std::process::{Child, ChildStdin, Command, Stdio};
 use std::sync::mpsc::{sync_channel, SyncSender};
 use std::thread;
 
-/// The bits of a packed answer that hold its code.
+/// The bits of a packed answer that hold its code, and those above them that hold its file.
 const CODE: u64 = 31;
-
-/// What an output holds before the call.
-const UNWRITTEN: u8 = 0xee;
+const FILE: u64 = 7;
 
 /// How many cases are asked at once, and how many such lots may wait for their answers.
 const LOT: usize = 64;
@@ -32,8 +30,8 @@ struct Outcome {
     output: Vec<u8>,
 }
 
-/// How often an operation gave an answer of a code.
-pub type Tally = BTreeMap<(&'static str, u64), usize>;
+/// How often an operation gave an answer that concerns a file and has a code.
+pub type Tally = BTreeMap<(&'static str, u64, u64), usize>;
 
 /// Tries each operation on each case. How often each answer was given alike, or what the first
 /// difference was.
@@ -71,7 +69,8 @@ fn hold_child(
     for tried in lots.into_iter().flatten() {
         for operation in &OPERATIONS {
             let packed = hold_answer(operation, &tried, &mut answers)?;
-            *tally.entry((operation.name, packed & CODE)).or_default() += 1;
+            let (code, file) = (packed & CODE, packed >> CODE.count_ones() & FILE);
+            *tally.entry((operation.name, file, code)).or_default() += 1;
         }
     }
     Ok(tally)
@@ -116,7 +115,7 @@ fn hold_answer(
     answers: &mut impl Read,
 ) -> Result<u64, String> {
     let lent = (operation.lent)(&tried.case);
-    let mut output = vec![UNWRITTEN; lent.output_length];
+    let mut output: Vec<u8> = (0..lent.output_length).map(unwritten).collect();
     let packed = (operation.answer)(&lent, &mut output);
     let right = Outcome {
         packed,
@@ -135,6 +134,12 @@ fn hold_answer(
         shown(&right),
         files(&lent)
     ))
+}
+
+/// What an output holds at a place before the call. Every byte is over 127, as no length and no
+/// input is, and differs from those beside it.
+fn unwritten(place: usize) -> u8 {
+    128 | place as u8
 }
 
 fn read_outcome(answers: &mut impl Read, output_length: usize) -> io::Result<Outcome> {

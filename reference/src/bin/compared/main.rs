@@ -6,7 +6,7 @@ mod driver;
 mod operations;
 
 use crate::driver::{hold_against, Tally};
-use crate::operations::OPERATIONS;
+use crate::operations::{Operation, OPERATIONS};
 use std::path::Path;
 use std::process::{Command, ExitCode};
 
@@ -32,13 +32,11 @@ fn main() -> ExitCode {
         }
     };
     let told = hold_against(Command::new(driver).args(words), tried);
-    match told.and_then(all_codes) {
+    match told.and_then(all_answers) {
         Ok(tally) => {
+            print!("{}", shown(&tally));
             let answers: usize = tally.values().sum();
-            println!(
-                "compared: {answers} answers alike, seed {seed}{}",
-                shown(&tally)
-            );
+            println!("compared: {answers} answers alike, seed {seed}");
             ExitCode::SUCCESS
         }
         Err(difference) => {
@@ -49,22 +47,34 @@ fn main() -> ExitCode {
 }
 
 /// The tally, if every answer was given: cases that leave one out would show nothing of it.
-fn all_codes(tally: Tally) -> Result<Tally, String> {
+fn all_answers(tally: Tally) -> Result<Tally, String> {
     for operation in &OPERATIONS {
-        for code in operation.codes.clone() {
-            if !tally.contains_key(&(operation.name, code)) {
-                return Err(format!("no case of {} is answered {code}", operation.name));
+        let name = operation.name;
+        for &(file, codes) in operation.answers {
+            for &code in codes {
+                if !tally.contains_key(&(name, file, code)) {
+                    return Err(format!("no case of {name} is answered {code}, file {file}"));
+                }
             }
         }
     }
     Ok(tally)
 }
 
+/// A line for each operation: each code with its file, and how often it was given.
 fn shown(tally: &Tally) -> String {
-    let counts = tally.iter();
-    counts
-        .map(|((name, code), count)| format!("; {name} {code}: {count}"))
-        .collect()
+    let line = |operation: &Operation| {
+        let counts = tally
+            .iter()
+            .filter(|((name, ..), _)| *name == operation.name);
+        let counts = counts.map(|((_, file, code), count)| match file {
+            0 => format!("{code}: {count}"),
+            _ => format!("{code} of file {file}: {count}"),
+        });
+        let counts: Vec<String> = counts.collect();
+        format!("{}: {}\n", operation.name, counts.join(", "))
+    };
+    OPERATIONS.iter().map(line).collect()
 }
 
 fn wrong_usage() -> ExitCode {

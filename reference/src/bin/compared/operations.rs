@@ -2,7 +2,6 @@
 
 use reference::generate::Case;
 use reference::pack;
-use std::ops::RangeInclusive;
 
 /// What an operation is lent: two files, of which the second may be empty, and an output.
 pub struct Lent<'a> {
@@ -11,6 +10,15 @@ pub struct Lent<'a> {
     pub output_length: usize,
 }
 
+/// The file that an answer concerns: none where it is no refusal.
+const NO_FILE: u64 = 0;
+const DOSSIER: u64 = 1;
+const UNIT: u64 = 2;
+const OUTPUT: u64 = 4;
+
+/// A file that answers concern, and their codes.
+pub type Codes = (u64, &'static [u64]);
+
 /// An operation of the library.
 pub struct Operation {
     pub name: &'static str,
@@ -18,22 +26,86 @@ pub struct Operation {
     pub lent: fn(&Case) -> Lent<'_>,
     /// What this program answers; what it writes stands in the output.
     pub answer: fn(&Lent, &mut [u8]) -> u64,
-    /// The codes of all its answers.
-    pub codes: RangeInclusive<u64>,
+    /// All its answers.
+    pub answers: &'static [Codes],
 }
 
+const MALFORMED: &[u64] = &[1, 2, 3, 4, 5, 6];
+const UNSOUND: &[u64] = &[1, 2, 3, 4, 5, 6, 7, 8, 9, 10];
+const NOT_ACCEPTED: &[u64] = &[1, 2, 3, 4, 5, 6, 7, 8, 9, 10, 11];
+
+/// A unit has no words, so none is bad.
+const NOT_COMPARED: &[u64] = &[1, 2, 3, 4, 6, 15];
+const NOT_RUN: &[u64] = &[1, 2, 3, 4, 6, 15, 16];
+
 /// Each in the place of its number in the driver.
-pub const OPERATIONS: [Operation; 1] = [Operation {
-    name: "check",
-    lent: dossier_alone,
-    answer: |lent, _| pack::check(lent.first),
-    codes: 0..=11,
-}];
+pub const OPERATIONS: [Operation; 5] = [
+    Operation {
+        name: "check",
+        lent: dossier_alone,
+        answer: |lent, _| pack::check(lent.first),
+        answers: &[(NO_FILE, &[0]), (DOSSIER, NOT_ACCEPTED)],
+    },
+    Operation {
+        name: "build",
+        lent: dossier_and_output,
+        answer: |lent, output| pack::build(lent.first, output),
+        answers: &[(NO_FILE, &[0]), (DOSSIER, UNSOUND), (OUTPUT, &[17])],
+    },
+    Operation {
+        name: "run",
+        lent: dossier_and_unit,
+        answer: |lent, _| pack::run(lent.first, lent.second),
+        answers: &[
+            (NO_FILE, &[0, 31]),
+            (DOSSIER, NOT_ACCEPTED),
+            (UNIT, NOT_RUN),
+        ],
+    },
+    Operation {
+        name: "cost",
+        lent: dossier_alone,
+        answer: |lent, _| pack::cost(lent.first),
+        answers: &[(NO_FILE, &[0]), (DOSSIER, MALFORMED)],
+    },
+    Operation {
+        name: "compare",
+        lent: dossier_unit_and_output,
+        answer: |lent, output| pack::compare(lent.first, lent.second, output),
+        answers: &[
+            (NO_FILE, &[0, 31]),
+            (DOSSIER, MALFORMED),
+            (UNIT, NOT_COMPARED),
+            (OUTPUT, &[17]),
+        ],
+    },
+];
 
 fn dossier_alone(case: &Case) -> Lent<'_> {
     Lent {
         first: &case.dossier,
         second: &[],
         output_length: 0,
+    }
+}
+
+fn dossier_and_output(case: &Case) -> Lent<'_> {
+    Lent {
+        output_length: case.output_length,
+        ..dossier_alone(case)
+    }
+}
+
+fn dossier_and_unit(case: &Case) -> Lent<'_> {
+    Lent {
+        second: &case.unit,
+        ..dossier_alone(case)
+    }
+}
+
+fn dossier_unit_and_output(case: &Case) -> Lent<'_> {
+    Lent {
+        output_length: case.output_length,
+        ..dossier_and_unit(case)
     }
 }

@@ -1,4 +1,4 @@
-//! Writes the dossiers to time the check on.
+//! Writes the dossiers and units to time the operations on.
 
 use reference::generate::timed;
 use std::fs;
@@ -7,7 +7,8 @@ use std::path::Path;
 use std::process::ExitCode;
 
 const USAGE: &str = "\
-usage: timed FOLDER   write each dossier to a file of the folder, and print its name and its path
+usage: timed FOLDER   write each dossier and its unit to files of the folder, and print the name of
+                      the dossier and the two paths, a line each
 ";
 
 fn main() -> ExitCode {
@@ -19,7 +20,7 @@ fn main() -> ExitCode {
     match write_all(Path::new(folder)) {
         Ok(()) => ExitCode::SUCCESS,
         Err(fault) => {
-            eprintln!("timed: a dossier cannot be written: {fault}");
+            eprintln!("timed: a file cannot be written: {fault}");
             ExitCode::FAILURE
         }
     }
@@ -27,9 +28,11 @@ fn main() -> ExitCode {
 
 fn write_all(folder: &Path) -> io::Result<()> {
     for (number, timed) in timed().iter().enumerate() {
-        let file = folder.join(format!("dossier-{number}"));
-        fs::write(&file, &timed.dossier)?;
-        println!("{}\n{}", timed.name, file.display());
+        let dossier = folder.join(format!("dossier-{number}"));
+        let unit = folder.join(format!("unit-{number}"));
+        fs::write(&dossier, &timed.dossier)?;
+        fs::write(&unit, &timed.unit)?;
+        println!("{}\n{}\n{}", timed.name, dossier.display(), unit.display());
     }
     Ok(())
 }
