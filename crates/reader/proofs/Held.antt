@@ -31,10 +31,11 @@ use Rattle.reader.specs.declared.SheetShape.{SheetShape}
 use Rattle.reader.specs.declared.SheetRead.{SheetRead}
 use Rattle.reader.specs.declared.SheetRead.the-variants.{Holds as SheetHolds, Refused as SheetRefused}
 use Rattle.reader.specs.Places.{entriesAt, wordsAt, recordsAt, afterWord, afterRecord, TableAt, WordsAt, RecordsAt}
-use Rattle.reader.specs.Shapes.{countWidth, dossierTable, unitTablePlace, coverPlace, separatingPlace, testsPlace, dossierShape, dossierRead, unitShape, unitRead, sheetShape, sheetRead}
+use Rattle.reader.specs.Chains.{boundNumber}
+use Rattle.reader.specs.Shapes.{dossierTable, unitTablePlace, coverPlace, separatingPlace, testsPlace, dossierShape, dossierRead, unitShape, unitRead, sheetShape, sheetRead}
 use Rattle.reader.specs.Standing.{DossierStands, UnitStands, SheetStands}
-use Rattle.reader.specs.Steps.{number, boundNumber}
-use Rattle.reader.proofs.Laws.{keeps}
+use Rattle.parts.specs.Steps.{countWidth, number}
+use Rattle.parts.proofs.Laws.{keeps}
 use Rattle.reader.proofs.Joined.{place-count, place-number, place-table, place-words}
 use Rattle.reader.proofs.Bridge.{from-got, words-got, table-got, records-got, count-got}
 

@@ -1,5 +1,4 @@
-pub mod Laws
-pub mod Parts
+pub mod Bounds
 pub mod Joined
 pub mod Bridge
 pub mod Held

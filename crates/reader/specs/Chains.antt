@@ -4,10 +4,12 @@ use Prim.Native.Nat.{ℕ, _+_}
 use mathlib.Core.List.{List}
 use lib.ListN.{length}
 use Rattle.rules.specs.declared.File.the-variants.{Dossier, Unit as UnitFile, Sheet}
+use Rattle.rules.specs.declared.Fault.the-variants.{BadNumbers}
 use Rattle.rules.specs.declared.Refusal.the-variants.{Malformed}
-use Rattle.rules.specs.Sizes.{mostSetWord, mostTestWord}
+use Rattle.rules.specs.Sizes.{mostSetWord, mostTestWord, boundGood}
 use Rattle.rules.specs.Words.{Word}
-use Rattle.rules.specs.Reading.{Got, got, faulty, Reader, then, _>>=_, _>>_, count, many, table, words, sheetRecord, ending}
+use Rattle.rules.specs.Reading.{Got, got, faulty, Reader, then, _>>=_, _>>_, byte, judged, count, many, table, words, sheetRecord, ending}
+use Rattle.parts.specs.Steps.{countWidth, sizes}
 use Rattle.reader.specs.declared.DossierShape.{DossierShape}
 use Rattle.reader.specs.declared.DossierRead.{DossierRead}
 use Rattle.reader.specs.declared.DossierRead.the-variants.{Holds as DossierHolds, Refused as DossierRefused}
@@ -19,8 +21,7 @@ use Rattle.reader.specs.declared.SheetRead.{SheetRead}
 use Rattle.reader.specs.declared.SheetRead.the-variants.{Holds as SheetHolds, Refused as SheetRefused}
 use Rattle.reader.specs.declared.dossier.Numbers.{Numbers}
 use Rattle.reader.specs.declared.dossier.WordList.{WordList}
-use Rattle.reader.specs.Shapes.{countWidth, dossierTable, unitTablePlace}
-use Rattle.reader.specs.Steps.{boundNumber, sizes}
+use Rattle.reader.specs.Shapes.{dossierTable, unitTablePlace}
 
 abbrev pub dossierPlaced : Got DossierShape → DossierRead
 dossierPlaced (got x p l) = DossierHolds x
@@ -66,6 +67,10 @@ unfoldable pub dossierFromTable : Numbers → Reader DossierShape
 dossierFromTable x = do
   table (x .inputs) (x .states)
   dossierFromCover x
+
+-- the byte for m
+abbrev pub boundNumber : ℕ → Reader ℕ
+boundNumber n = judged (boundGood n) BadNumbers byte
 
 unfoldable pub dossierFromBound : ℕ → ℕ → Reader DossierShape
 dossierFromBound k n = do

@@ -5,6 +5,7 @@ use mathlib.Core.List.{List, flatMap}
 use lib.ListN.{length}
 use Rattle.rules.specs.Files.{DossierData, UnitData, SheetRecord, entryBytes, wordBytes}
 use Rattle.rules.specs.Operations.{Outcome, fine, refuse}
+use Rattle.parts.specs.Steps.{countWidth}
 use Rattle.reader.specs.declared.DossierShape.{DossierShape}
 use Rattle.reader.specs.declared.DossierRead.{DossierRead}
 use Rattle.reader.specs.declared.DossierRead.the-variants.{Holds as DossierHolds, Refused as DossierRefused}
@@ -14,10 +15,6 @@ use Rattle.reader.specs.declared.UnitRead.the-variants.{Holds as UnitHol
 use Rattle.reader.specs.declared.SheetShape.{SheetShape}
 use Rattle.reader.specs.declared.SheetRead.{SheetRead}
 use Rattle.reader.specs.declared.SheetRead.the-variants.{Holds as SheetHolds, Refused as SheetRefused}
-
--- the bytes of a section's count
-abbrev pub countWidth : ℕ
-countWidth = 2
 
 -- A dossier's table stands after a count, three numbers and its own count.
 abbrev pub dossierTable : ℕ

@@ -1,14 +1,14 @@
 // The dossier, read section by section: each function reads one and goes on to the next with what is known so far.
 use crate::DossierRead;
 use crate::DossierShape;
-use crate::machine::Sizes;
-use crate::machine::bound_at;
-use crate::machine::sizes_at;
-use crate::machine::table_at;
-use crate::steps::ByteRead;
-use crate::steps::Step;
-use crate::words::Section;
-use crate::words::words_at;
+use crate::bound::bound_at;
+use parts::ByteRead;
+use parts::Section;
+use parts::Sizes;
+use parts::Step;
+use parts::sizes_at;
+use parts::table_at;
+use parts::words_at;
 use rules::Fault;
 use rules::File;
 use rules::MOST_DOSSIER_BYTES;

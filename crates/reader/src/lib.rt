@@ -4,15 +4,13 @@
 // specs/Shapes.antt, what stands at a place in specs/Places.antt.
 use rules::Refusal;
 
+mod bound;
 mod dossier;
-mod machine;
 mod sheet;
-mod steps;
 mod unit;
-mod words;
 
+pub use bound::bound_of;
 pub use dossier::read_dossier;
-pub use machine::bound_of;
 pub use sheet::read_sheet;
 pub use unit::read_unit;
 

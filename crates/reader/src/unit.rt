@@ -1,10 +1,10 @@
 // The unit: numbers and a table.
 use crate::UnitRead;
 use crate::UnitShape;
-use crate::machine::Sizes;
-use crate::machine::sizes_at;
-use crate::machine::table_at;
-use crate::steps::Step;
+use parts::Sizes;
+use parts::Step;
+use parts::sizes_at;
+use parts::table_at;
 use rules::Fault;
 use rules::File;
 use rules::MOST_UNIT_BYTES;
