@@ -29,7 +29,7 @@ use Rattle.filing.specs.Distinct.{isFirst, firsts, FirstPlaces, StoredOf
 first-behind : (done : List Word) (w : Word) (rest : List Word) → isFirst (done ++ w ∷ rest) (length done, w) ≡ not (isIn w done)
 first-behind done w rest = rw (take-at done (w ∷ rest) (length done) refl)
 
-isIn-snoc : (v : Word) (done : List Word) (w : Word) → isIn v (done ++ (w ∷ [])) ≡ (same v w || isIn v done)
+pub isIn-snoc : (v : Word) (done : List Word) (w : Word) → isIn v (done ++ (w ∷ [])) ≡ (same v w || isIn v done)
 isIn-snoc v [] w = refl
 isIn-snoc v (u ∷ done) w = rw (isIn-snoc v done w) (turn (same v u) (same v w) (isIn v done))
   where
@@ -38,7 +38,7 @@ isIn-snoc v (u ∷ done) w = rw (isIn-snoc v done w) (turn (same v u) (same v w)
     turn true false c = refl
     turn false b c = refl
 
-length-snoc : {A : Type 0} (l : List A) (x : A) → length (l ++ (x ∷ [])) ≡ suc (length l)
+pub length-snoc : {A : Type 0} (l : List A) (x : A) → length (l ++ (x ∷ [])) ≡ suc (length l)
 length-snoc l x = length-append l (x ∷ []) ∙ omega arith
 
 -- Where no word before passes the test, the first one that does is the first of its kind.
@@ -72,7 +72,7 @@ pub first-firsts : (test : Word → Bool) (ws : List Word) → first (λ (i, w).
 first-firsts test ws = first-rest test ws [] ws refl (λ w m. absurd (List·Memᴰ·not-nil m))
 
 -- the place of the next word
-place-next : (s : List ℕ) (p i : ℕ) → wordPlace s p (suc i) ≡ afterWord s (wordPlace s p i)
+pub place-next : (s : List ℕ) (p i : ℕ) → wordPlace s p (suc i) ≡ afterWord s (wordPlace s p i)
 unfolding wordPlace
 place-next s p zero = refl
 place-next s p (suc i) = place-next s (afterWord s p) i

@@ -12,11 +12,13 @@ use Rattle.rules.specs.declared.Checked.{Checked}
 use Rattle.rules.specs.declared.Built.{Built}
 use Rattle.rules.specs.declared.Ran.{Ran}
 use Rattle.rules.specs.declared.Compared.{Compared}
+use Rattle.rules.specs.declared.Judged.{Judged}
 use Rattle.rules.specs.declared.Costed.{Costed}
-use Rattle.rules.specs.Answers.{Said, checkSays, buildSays, runSays, compareSays, costSays}
-use Rattle.rules.specs.Promises.{CheckPromise, BuildPromise, RunPromise, ComparePromise, CostPromise}
-use Rattle.theory.specs.Answers.{value, checkSaid, check-said, buildSaid, build-said, runSaid, run-said, compareSaid, compare-said, costSaid, cost-said}
-use Rattle.theory.specs.Bounds.{Fits, PlainFits, MissingFits, check-fits, build-fits, run-fits, compare-fits, cost-fits}
+use Rattle.rules.specs.Answers.{Said, well, checkSays, buildSays, runSays, compareSays, judgeSays, costSays}
+use Rattle.rules.specs.Operations.{Part, partOf, judgedPart}
+use Rattle.rules.specs.Promises.{CheckPromise, BuildPromise, RunPromise, ComparePromise, JudgePromise, JudgeWordPromise, CostPromise}
+use Rattle.theory.specs.Answers.{value, checkSaid, check-said, buildSaid, build-said, runSaid, run-said, compareSaid, compare-said, judgeSaid, judge-said, costSaid, cost-said}
+use Rattle.theory.specs.Bounds.{Fits, PlainFits, MissingFits, check-fits, build-fits, run-fits, compare-fits, judge-fields-fit, judged-part-fits, cost-fits}
 use Rattle.hegdorvin.specs.Packed.{packedPlain, packedMissing, packed}
 
 -- the values in a packed MISSING, in the order of the paper
@@ -128,6 +130,9 @@ made-run s t h = rw (h .number, h .file, h .values 0, h .values 1, h .values 2, 
 made-compare : Made compareSaid
 made-compare s t h = rw (h .number, h .file, h .values 0, h .values 1, h .values 2, h .values 3, h .values 4, h .values 5, h .values 6, h .values 7)
 
+made-judge : Made judgeSaid
+made-judge s t h = rw (h .number, h .file, h .values 0, h .values 1, h .values 2, h .values 3, h .values 4, h .values 5, h .values 6, h .values 7)
+
 made-cost : Made costSaid
 made-cost s t h = rw (h .number, h .file, h .values 0, h .values 1, h .values 2, h .values 3, h .values 4, h .values 5, h .values 6, h .values 7)
 
@@ -143,6 +148,20 @@ run-unpacks dossier unit r promise = back runSays runSaid run-said made-run r (r
 
 pub compare-unpacks : (dossier unit out : List ℕ) (r : Compared) (left : List ℕ) → ComparePromise dossier unit out r left → compareSaid (unpacked (packed (compareSays r))) ≡ r
 compare-unpacks dossier unit out r left promise = back compareSays compareSaid compare-said made-compare r (compare-fits dossier unit out r left promise)
+
+pub judge-unpacks : (dossier sheet : List ℕ) (r : Judged) → JudgePromise dossier sheet r → judgeSaid (unpacked (packed (judgeSays r))) ≡ r
+judge-unpacks dossier sheet r promise = back judgeSays judgeSaid judge-said made-judge r (judge-fields-fit dossier sheet r promise)
+
+-- the part that is told by its place and its length
+abbrev pub partSaid : Said → Part
+partSaid s = record { place = value s 0; size = value s 1 }
+
+-- The part at the unpacked place, of the unpacked length, is the one that the judge hands back.
+pub judge-word-unpacks : (dossier sheet : List ℕ)
+    → JudgeWordPromise dossier sheet (partOf dossier (partSaid (unpacked (packed (well (judgedPart dossier sheet .place ∷ judgedPart dossier sheet .size ∷ []))))))
+judge-word-unpacks dossier sheet =
+    let same = packed-same (well (judgedPart dossier sheet .place ∷ judgedPart dossier sheet .size ∷ [])) (judged-part-fits dossier sheet) in
+    λ i. partOf dossier (record { place = same .values 0 i; size = same .values 1 i })
 
 pub cost-unpacks : (bytes : List ℕ) (r : Costed) → CostPromise bytes r → costSaid (unpacked (packed (costSays r))) ≡ r
 cost-unpacks bytes r promise = back costSays costSaid cost-said made-cost r (cost-fits bytes r promise)

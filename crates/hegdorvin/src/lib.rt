@@ -4,16 +4,21 @@ mod pack;
 use builder::build;
 use checker::check;
 use comparer::compare;
+use judge::failing_part;
+use judge::judge;
 use pack::built;
 use pack::checked;
 use pack::compared;
 use pack::costed;
+use pack::judged;
+use pack::part;
 use pack::ran;
 use runner::cost;
 use runner::run;
 ghost use mathlib.Core.Path.{_≡_};
-ghost use Rattle.rules.specs.Answers.{checkSays, buildSays, runSays, compareSays, costSays};
-ghost use Rattle.rules.specs.Operations.{checkAnswer, buildAnswer, buildOutput, runAnswer, compareAnswer, compareOutput, costAnswer};
+ghost use mathlib.Core.List.{[], _∷_};
+ghost use Rattle.rules.specs.Answers.{well, checkSays, buildSays, runSays, compareSays, judgeSays, costSays};
+ghost use Rattle.rules.specs.Operations.{checkAnswer, buildAnswer, buildOutput, runAnswer, compareAnswer, compareOutput, judgeAnswer, judgedPart, costAnswer};
 ghost use Rattle.hegdorvin.specs.Packed.{packed};
 
 #[no_mangle]
@@ -42,6 +47,21 @@ pub extern "C" fn hegdorvin_compare(dossier: &[u8], unit: &[u8], out: &mut [u8])
     ensures { λ r. ⌜ (r ≡ packed (compareSays (compareAnswer (now (dossier .entry)) (now (unit .entry)) (now (out .entry))))) × (now (out .exit) ≡ compareOutput (now (dossier .entry)) (now (unit .entry)) (now (out .entry))) ⌝ }
 {
     compared(compare(dossier, unit, out))
+}
+
+#[no_mangle]
+pub extern "C" fn hegdorvin_judge(dossier: &[u8], sheet: &[u8]) -> u64
+    ensures { λ r. ⌜ r ≡ packed (judgeSays (judgeAnswer (now (dossier .entry)) (now (sheet .entry)))) ⌝ }
+{
+    judged(judge(dossier, sheet))
+}
+
+// The part of the dossier that the judge hands back: its place and its length.
+#[no_mangle]
+pub extern "C" fn hegdorvin_judge_word(dossier: &[u8], sheet: &[u8]) -> u64
+    ensures { λ r. ⌜ r ≡ packed (well (judgedPart (now (dossier .entry)) (now (sheet .entry)) .place ∷ judgedPart (now (dossier .entry)) (now (sheet .entry)) .size ∷ [])) ⌝ }
+{
+    part(failing_part(dossier, sheet))
 }
 
 #[no_mangle]

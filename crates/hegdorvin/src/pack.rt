@@ -1,16 +1,19 @@
 // Answers as one number.
+use judge::WordPart;
 use rules::Built;
 use rules::Checked;
 use rules::Compared;
 use rules::Costed;
 use rules::Fault;
 use rules::File;
+use rules::Judged;
 use rules::Middle;
 use rules::Ran;
 use rules::Refusal;
 ghost use mathlib.Core.Path.{_≡_};
+ghost use mathlib.Core.List.{[], _∷_};
 ghost use Prim.Native.Nat.{_+_, _*_, _<_};
-ghost use Rattle.rules.specs.Answers.{fileNumber, faultNumber, refusing, checkSays, buildSays, runSays, compareSays, costSays};
+ghost use Rattle.rules.specs.Answers.{fileNumber, faultNumber, well, refusing, checkSays, buildSays, runSays, compareSays, judgeSays, costSays};
 ghost use Rattle.rules.specs.declared.Refusal.the-variants.{Missing};
 ghost use Rattle.theory.specs.Bounds.{Fits, SmallRefusal};
 ghost use Rattle.hegdorvin.specs.Packed.{packed};
@@ -143,6 +146,25 @@ pub fn compared(r: Compared) -> u64
         Compared::Differs(n) => plain(31, 0, n, 0),
         Compared::Refused(x) => refusal(x),
     }
+}
+
+pub fn judged(r: Judged) -> u64
+    requires { ⌜ Fits (judgeSays r) ⌝ }
+    ensures { λ n. ⌜ n ≡ packed (judgeSays r) ⌝ }
+{
+    match r {
+        Judged::Agrees => plain(0, 0, 0, 0),
+        Judged::Deviates(test, step) => plain(31, 0, test, step),
+        Judged::Refused(x) => refusal(x),
+    }
+}
+
+// Where a part of the dossier stands, and its length.
+pub fn part(p: WordPart) -> u64
+    requires { ⌜ Fits (well (p .place ∷ p .size ∷ [])) ⌝ }
+    ensures { λ n. ⌜ n ≡ packed (well (p .place ∷ p .size ∷ [])) ⌝ }
+{
+    plain(0, 0, p.place, p.size)
 }
 
 pub fn costed(r: Costed) -> u64

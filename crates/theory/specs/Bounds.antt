@@ -4,10 +4,11 @@ use Prim.Native.Nat.{ℕ, zero, suc, _+_, _≤_, _<_}
 use native.Mathlib.Omega.{arith}
 use native.Mathlib.Decide.{decLe}
 use mathlib.Core.Path.{_≡_, refl, sym, _∙_, ap}
-use mathlib.Core.Option.{none}
+use mathlib.Core.Option.{Option, none, some}
 use mathlib.Core.Logic.{_≢_}
 use mathlib.Core.List.{List, [], _∷_, map, flatMap}
-use lib.ListN.{length, getD, getElem?, length-append}
+use mathlib.Core.Bool.{not}
+use lib.ListN.{length, getD, getElem?, take, length-append}
 use Rattle.rules.specs.declared.File.{File}
 use Rattle.rules.specs.declared.File.the-variants.{Dossier, Unit as UnitFile, Sheet, Output as OutputFile}
 use Rattle.rules.specs.declared.Fault.{Fault}
@@ -25,17 +26,17 @@ use Rattle.rules.specs.declared.Judged.{Judged}
 use Rattle.rules.specs.declared.Judged.the-variants.{Agrees, Deviates, Refused as JudgeRefused}
 use Rattle.rules.specs.declared.Costed.{Costed}
 use Rattle.rules.specs.declared.Costed.the-variants.{Cost, Refused as CostRefused}
-use Rattle.rules.specs.Machines.{Machine, answerFrom}
+use Rattle.rules.specs.Machines.{Machine, answer, answerFrom}
 use Rattle.rules.specs.Sizes.{mostTestWord, mostInputs, mostDossierBytes, mostUnitBytes, mostSheetBytes}
-use Rattle.rules.specs.Lists.{sum}
-use Rattle.rules.specs.Words.{Word, Valid}
+use Rattle.rules.specs.Lists.{_∈_, sum}
+use Rattle.rules.specs.Words.{Word, Valid, same}
 use Rattle.rules.specs.Files.{DossierData, UnitData, SheetRecord, golden, unit, wordBytes, countBytes, wordsBytes, frontBytes, dossierBytes, recordBytes, sheetBytes}
 use Rattle.rules.specs.Reading.{Reader, dossier, unitTable, sheet}
-use Rattle.rules.specs.Operations.{Outcome, refuse, readFile, readDossier, readUnit, readSheet}
+use Rattle.rules.specs.Operations.{Outcome, fine, refuse, readFile, readDossier, readUnit, readSheet, recordedFor, Paired, judge, deviatingOf, answered, noPart, testPart, deviatingPart, judgedPart}
 use Rattle.rules.specs.Answers.{Said, fileNumber, well, differing, refusing, checkSays, buildSays, runSays, compareSays, judgeSays, costSays}
 use Rattle.rules.specs.Promises.{CheckPromise, BuildPromise, RunPromise, ComparePromise, JudgePromise, CostPromise}
 use Rattle.theory.specs.Sized.{SizedDossier, SizedSheet}
-use Rattle.theory.specs.Lists.{at-in, at-below}
+use Rattle.theory.specs.Lists.{at-in, at-below, found-at}
 use Rattle.theory.specs.Outcomes.{read-refuses}
 use Rattle.theory.specs.Files.{Refusals, dossier-refusals, unit-refusals, sheet-refusals, dossier-sized, unit-sized, sheet-sized}
 use Rattle.theory.specs.Answers.{value, fault-numbers, check-answer, build-answer, run-answer, compare-answer, judge-answer, cost-answer}
@@ -51,7 +52,7 @@ use Rattle.theory.specs.Compare.{Compares, TellingOf, CompareRefuses, te
 use Rattle.theory.specs.Pairing
 use Rattle.theory.specs.Pairing.{PairRefuses}
 use Rattle.theory.specs.Judge
-use Rattle.theory.specs.Judge.{JudgeRefuses, judge-exactly}
+use Rattle.theory.specs.Judge.{JudgeRefuses, judge-fits, judge-exactly}
 use Rattle.theory.specs.Sound.{SoundRefuses, seven, eight, nine, ten}
 use Rattle.theory.specs.Check.{EnoughRefuses, CheckRefuses, malformed, unsound, eleven, check-exactly}
 
@@ -343,6 +344,38 @@ judge-fields-fit dossierFile sheetFile (Deviates i j) p =
     differing-fits (i ∷ j ∷ []) (omega arith) (omega (arith, place, tests)) (omega (arith, below))
 judge-fields-fit dossierFile sheetFile (JudgeRefused r) p =
     refusal-fits r (judge-small dossierFile sheetFile r (judge-exactly dossierFile sheetFile (JudgeRefused r) .0 (sym (judge-answer dossierFile sheetFile (JudgeRefused r) p))))
+
+-- some of a dossier's tests have at most the bytes of all
+some-tests : (i : ℕ) (ws : List Word) → length (flatMap wordBytes (take i ws)) ≤ length (flatMap wordBytes ws)
+unfolding flatMap wordBytes
+some-tests zero ws = omega arith
+some-tests (suc i) [] = omega arith
+some-tests (suc i) (w ∷ ws) = let ih = some-tests i ws in rw (length-append, length-append) (omega arith)
+
+test-small : (d : DossierData) → SizedDossier d → (i : ℕ) (t : Word) → t ∈ d .tests → Small (testPart d i t .place) × Small (testPart d i t .size)
+unfolding testPart dossierBytes wordsBytes countBytes
+test-small d sized i t m =
+    let size = rw (length-append, length-append) at (sized .size) in
+    (omega (arith, size, some-tests i (d .tests)), omega (arith, sized .tests t m .1))
+
+-- where the part that the judge hands back stands, and its length
+pub judged-part-fits : (dossierFile sheetFile : List ℕ) → Fits (well (judgedPart dossierFile sheetFile .place ∷ judgedPart dossierFile sheetFile .size ∷ []))
+judged-part-fits dossierFile sheetFile =
+    let (place, size) = go (judge dossierFile sheetFile) refl in
+    well-fits (judgedPart dossierFile sheetFile .place ∷ judgedPart dossierFile sheetFile .size ∷ []) (omega arith) place size
+  where
+    deviates : (p : Paired) → judge dossierFile sheetFile ≡ fine p → (o : Option (ℕ × Word)) → deviatingOf p ≡ o
+        → Small (deviatingPart (p .dossier) o .place) × Small (deviatingPart (p .dossier) o .size)
+    deviates p judges none is = (omega arith, omega arith)
+    deviates p judges (some (i, t)) is =
+        let sized = dossier-sized dossierFile (p .dossier) (judge-fits dossierFile sheetFile p .0 judges .accepted .0) in
+        let found = found-at (λ (i, t). not (same (answer (golden (p .dossier)) t) (recordedFor (p .records) t))) (p .dossier .tests) is in
+        test-small (p .dossier) sized i t (at-in (p .dossier .tests) i (found .here))
+
+    go : (o : Outcome Paired) → judge dossierFile sheetFile ≡ o
+        → Small (answered o (λ p. deviatingPart (p .dossier) (deviatingOf p)) (λ r. noPart) .place) × Small (answered o (λ p. deviatingPart (p .dossier) (deviatingOf p)) (λ r. noPart) .size)
+    go (fine p) judges = deviates p judges (deviatingOf p) refl
+    go (refuse r) judges = (omega arith, omega arith)
 
 pub cost-fits : (bytes : List ℕ) (r : Costed) → CostPromise bytes r → Fits (costSays r)
 cost-fits bytes (Cost n l) p =

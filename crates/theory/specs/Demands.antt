@@ -9,6 +9,7 @@ use Rattle.rules.specs.declared.Ran.{Ran}
 use Rattle.rules.specs.declared.Ran.the-variants.{Passes}
 use Rattle.rules.specs.declared.Compared.{Compared}
 use Rattle.rules.specs.declared.Compared.the-variants.{Equal as Alike}
+use Rattle.rules.specs.declared.Judged.{Judged}
 use Rattle.rules.specs.declared.Judged.the-variants.{Agrees, Deviates}
 use Rattle.rules.specs.Lists.{_∈_}
 use Rattle.rules.specs.Words.{Word, Valid}
@@ -16,12 +17,12 @@ use Rattle.rules.specs.Machines.{Machine, Complete, answer}
 use Rattle.rules.specs.Files.{DossierData, UnitData, SheetRecord, golden, unit, bound}
 use Rattle.rules.specs.Needed.{IsAccepted}
 use Rattle.rules.specs.Operations.{fine, readDossier, readUnit, readSheet, checkAnswer, runAnswer, compareAnswer, judgeAnswer}
-use Rattle.rules.specs.Promises.{CheckPromise, RunPromise, ComparePromise}
+use Rattle.rules.specs.Promises.{CheckPromise, RunPromise, ComparePromise, JudgePromise}
 use Rattle.theory.specs.Lists.{At}
 use Rattle.theory.specs.Machines.{golden-complete}
 use Rattle.theory.specs.Complete.{complete}
 use Rattle.theory.specs.Outcomes.{fine-injective}
-use Rattle.theory.specs.Answers.{check-answer, run-answer, compare-answer}
+use Rattle.theory.specs.Answers.{check-answer, run-answer, compare-answer, judge-answer}
 use Rattle.theory.specs.Files.{dossier-sized, unit-sized}
 use Rattle.theory.specs.Check.{check-exactly}
 use Rattle.theory.specs.Steps.{step-differs}
@@ -115,6 +116,13 @@ agreeing-sheet-settles dossierFile sheetFile d rs agrees reads sheet-reads U cov
         let all′ : (r : SheetRecord) → r ∈ rs → answer (golden d) (r .word) ≡ r .recorded = rw (d-is, rs-is) at all in
         tests-settle-every-word dossierFile d accepted reads U covered
         (λ t m. let (r, n, is) = belongs′ .whole t m in rw is at (sheet r n ∙ sym (all′ r n)))
+
+-- The same of whatever the promise allows: of any program that keeps it.
+pub allowed-agreeing-sheet-settles : (dossierFile sheetFile : List ℕ) (d : DossierData) (rs : List SheetRecord) (judged : Judged) → JudgePromise dossierFile sheetFile judged
+    → readDossier dossierFile ≡ fine d → readSheet (d .inputs) sheetFile ≡ fine rs → (U : Machine) → Covered d U → SheetOf U rs
+    → judged ≡ Agrees → (w : Word) → Valid (d .inputs) w → answer U w ≡ answer (golden d) w
+allowed-agreeing-sheet-settles dossierFile sheetFile d rs judged judges reads sheet-reads U covered sheet agrees =
+    agreeing-sheet-settles dossierFile sheetFile d rs (sym (judge-answer dossierFile sheetFile judged judges) ∙ agrees) reads sheet-reads U covered sheet
 
 -- If the judge answers DEVIATES, a machine whose sheet this is differs from the golden on the test that is named.
 pub deviating-sheet-tells : (dossierFile sheetFile : List ℕ) (d : DossierData) (rs : List SheetRecord) (i j : ℕ) → judgeAnswer dossierFile sheetFile ≡ Deviates i j

@@ -13,12 +13,12 @@ use Rattle.rules.specs.declared.Judged.the-variants.{Agrees}
 use Rattle.rules.specs.Words.{Word, Valid, same}
 use Rattle.rules.specs.Machines.{answer}
 use Rattle.rules.specs.Files.{DossierData, SheetRecord, golden, unit}
-use Rattle.rules.specs.Operations.{fine, readDossier, readSheet, runAnswer, compareAnswer, judgeAnswer, judgedPart}
-use Rattle.rules.specs.Answers.{checkSays, runSays, compareSays}
+use Rattle.rules.specs.Operations.{fine, readDossier, readSheet, runAnswer, compareAnswer, judgeAnswer, partOf, judgedPart}
+use Rattle.rules.specs.Answers.{checkSays, runSays, compareSays, judgeSays}
 use Rattle.rules.specs.Starred.{built2, built3, unitV, sheet2, sheet2′, sheetV, dataG2, dataG3, dataV, records2, records2′, recordsV, starred}
 use Rattle.theory.specs.Lists.{At, all-true}
 use Rattle.theory.specs.Words.{same-true}
-use Rattle.theory.specs.Reordering.{times, times-append, SameVerdict, order-does-not-matter}
+use Rattle.theory.specs.Reordering.{Reordered, times-append, SameVerdict, order-does-not-matter, allowed-order-does-not-matter}
 use Rattle.theory.specs.Sized.{SizedDossier}
 use Rattle.theory.specs.Machines.{golden-complete}
 use Rattle.theory.specs.Files.{dossier-sized, unit-sized}
@@ -26,7 +26,7 @@ use Rattle.theory.specs.Judge.{AllGolden, judge-exactly}
 use Rattle.theory.specs.Compare.{Equal}
 use Rattle.theory.specs.Pairing.{Belongs}
 use Rattle.theory.specs.Outcomes.{fine-injective}
-use Rattle.theory.specs.Demands.{Covered, SheetOf, tests-settle-every-word, equal-exactly, passes-exactly-when-equal, allowed-passes-exactly-when-equal, agreeing-sheet-settles, deviating-sheet-tells, equal-machine-agrees}
+use Rattle.theory.specs.Demands.{Covered, SheetOf, tests-settle-every-word, equal-exactly, passes-exactly-when-equal, allowed-passes-exactly-when-equal, agreeing-sheet-settles, allowed-agreeing-sheet-settles, deviating-sheet-tells, equal-machine-agrees}
 
 -- the sheet with the golden's answers
 abbrev trueSheet : List ℕ
@@ -82,6 +82,11 @@ agreeing-example : (w : Word) → Valid 2 w → answer (golden dataG2) w ≡ ans
 agreeing-example =
     agreeing-sheet-settles built2 trueSheet dataG2 records2 (starred .agrees-2) (starred .reads-2) (starred .sheet-reads) (golden dataG2) covered-2 (true-sheet .1)
 
+-- The same of what the promise allows for them: AGREES.
+allowed-agreeing-example : (w : Word) → Valid 2 w → answer (golden dataG2) w ≡ answer (golden dataG2) w
+allowed-agreeing-example =
+    allowed-agreeing-sheet-settles built2 trueSheet dataG2 records2 Agrees (ap judgeSays (sym (starred .agrees-2))) (starred .reads-2) (starred .sheet-reads) (golden dataG2) covered-2 (true-sheet .1) refl
+
 -- An equal machine's sheet agrees, at the same two.
 equal-machine-example : judgeAnswer built2 trueSheet ≡ Agrees
 equal-machine-example =
@@ -93,14 +98,21 @@ deviating-example =
     deviating-sheet-tells built3 sheetV dataG3 recordsV 1 2 (starred .deviates-V) (starred .reads-3) (starred .sheet-reads-V) (unit dataV)
     (λ r m. same-true _ _ (all-true (λ (e : SheetRecord). same (answer (unit dataV) (e .word)) (e .recorded)) {l = recordsV} refl m))
 
--- Order does not matter, at the sheet for m = 2 and another order of its records.
-order-example : SameVerdict (judgeAnswer built2 trueSheet) (judgeAnswer built2 sheet2′) × (judgedPart built2 trueSheet ≡ judgedPart built2 sheet2′)
-order-example = order-does-not-matter built2 trueSheet sheet2′ records2 records2′ both-read (λ r. each r)
-  where
-    both-read : (d : DossierData) → readDossier built2 ≡ fine d → (readSheet (d .inputs) trueSheet ≡ fine records2) × (readSheet (d .inputs) sheet2′ ≡ fine records2′)
-    both-read d reads =
-        let is : dataG2 ≡ d = fine-injective (sym (starred .reads-2) ∙ reads) in
-        rw (← is) (starred .sheet-reads, starred .sheet-reads′)
+-- The sheet for m = 2 and another order of its records both read well, and hold the same records.
+both-read : (d : DossierData) → readDossier built2 ≡ fine d → (readSheet (d .inputs) trueSheet ≡ fine records2) × (readSheet (d .inputs) sheet2′ ≡ fine records2′)
+both-read d reads =
+    let is : dataG2 ≡ d = fine-injective (sym (starred .reads-2) ∙ reads) in
+    rw (← is) (starred .sheet-reads, starred .sheet-reads′)
 
-    each : (r : SheetRecord) → times r records2 ≡ times r records2′
-    each r = times-append r (take 2 records2) (drop 2 records2) ∙ add-comm _ _ ∙ sym (times-append r (take 1 records2′) (drop 1 records2′))
+each-as-often : Reordered records2 records2′
+each-as-often r = times-append r (take 2 records2) (drop 2 records2) ∙ add-comm _ _ ∙ sym (times-append r (take 1 records2′) (drop 1 records2′))
+
+-- Order does not matter, at these two.
+order-example : SameVerdict (judgeAnswer built2 trueSheet) (judgeAnswer built2 sheet2′) × (judgedPart built2 trueSheet ≡ judgedPart built2 sheet2′)
+order-example = order-does-not-matter built2 trueSheet sheet2′ records2 records2′ both-read each-as-often
+
+-- The same of what the promises allow for them: AGREES, and the part that goes with it.
+allowed-order-example : SameVerdict Agrees Agrees × (partOf built2 (judgedPart built2 trueSheet) ≡ partOf built2 (judgedPart built2 sheet2′))
+allowed-order-example =
+    allowed-order-does-not-matter built2 trueSheet sheet2′ records2 records2′ Agrees Agrees _ _ both-read each-as-often
+    (ap judgeSays (sym (starred .agrees-2))) (ap judgeSays (sym (starred .agrees-2′))) refl refl

@@ -17,7 +17,9 @@ use Rattle.rules.specs.Machines.{answer}
 use Rattle.rules.specs.Files.{DossierData, SheetRecord, golden}
 use Rattle.theory.specs.Lists.{outcome, some-injective, first-same, of-placed, Rising, at-in, in-at}
 use Rattle.theory.specs.Words.{both, same-true, same-refl}
-use Rattle.rules.specs.Operations.{Outcome, fine, refuse, answered, _>>_, readDossier, readSheet, check, firstDifference, pair, recordedFor, deviating, judge, deviatingOf, judgement, judgeAnswer, Part, noPart, deviatingPart, judgedPart}
+use Rattle.rules.specs.Operations.{Outcome, fine, refuse, answered, _>>_, readDossier, readSheet, check, firstDifference, pair, recordedFor, deviating, judge, deviatingOf, judgement, judgeAnswer, Part, noPart, partOf, deviatingPart, judgedPart}
+use Rattle.rules.specs.Promises.{JudgePromise, JudgeWordPromise}
+use Rattle.theory.specs.Answers.{judge-answer}
 use Rattle.theory.specs.Check.{check-accepts}
 use Rattle.theory.specs.Judge.{recorded-for}
 use Rattle.theory.specs.Steps.{unlike-found}
@@ -248,3 +250,12 @@ order-does-not-matter dossierFile one two rs ts read reordered =
           let (one-reads, two-reads) = read d (check-accepts dossierFile d .0 e .0) in
           rw (e, one-reads, two-reads) (paired-same d rs ts reordered)
     ]
+
+-- The same of whatever the promises allow: of any programs that keep them, on two such sheets.
+pub allowed-order-does-not-matter : (dossierFile one two : List ℕ) (rs ts : List SheetRecord) (r s : Judged) (part other : List ℕ)
+    → ((d : DossierData) → readDossier dossierFile ≡ fine d → (readSheet (d .inputs) one ≡ fine rs) × (readSheet (d .inputs) two ≡ fine ts))
+    → Reordered rs ts → JudgePromise dossierFile one r → JudgePromise dossierFile two s → JudgeWordPromise dossierFile one part → JudgeWordPromise dossierFile two other
+    → SameVerdict r s × (part ≡ other)
+allowed-order-does-not-matter dossierFile one two rs ts r s part other read reordered judges judges′ hands hands′ =
+    let (verdict, same-part) = order-does-not-matter dossierFile one two rs ts read reordered in
+    (rw (judge-answer dossierFile one r judges, judge-answer dossierFile two s judges′) verdict, hands ∙ ap (partOf dossierFile) same-part ∙ sym hands′)

@@ -228,6 +228,15 @@ pub fn unit_output(
     table_output(bytes, table, inputs, states, state.number(), input)
 }
 
+// The place after the record at a place.
+pub fn record_end(sheet: &[u8], place: usize) -> usize
+    requires { ⌜ afterRecord (now sheet) place ≤ length (now sheet) ⌝ }
+    ensures { λ r. ⌜ r ≡ afterRecord (now (sheet .entry)) place ⌝ }
+{
+    let n = wide(sheet[place]);
+    place + 1 + n + OUTPUT_WIDTH * n
+}
+
 // The output that the record at a place has at a step.
 pub fn recorded_output(sheet: &[u8], place: usize, step: usize) -> Output
     requires { ⌜ afterRecord (now sheet) place ≤ length (now sheet) ⌝ }

@@ -1,0 +1,19 @@
+use mathlib.Core.Path.{refl}
+use native.Mathlib.Omega.{arith}
+use Rattle.hegdorvin.proofs.Laws.{plain-packed}
+use Rattle.hegdorvin.proofs.pack.part.Statement.{statement}
+use Rattle.hegdorvin.proofs.pack.part.Tie as tie
+use Rattle.hegdorvin.proofs.pack.part.Reads as reads
+use Rattle.hegdorvin.proofs.pack.part.Lts as lts
+use Rattle.hegdorvin.proofs.pack.plain.Reads as plain-reads
+
+-- src/pack.rt:167:5
+plain-requires : tie.Need-plain-requires
+plain-requires c κs = let f = c .pre .plain (λ e. omega arith) in (omega arith, omega arith, omega (arith, f .first, f .second), omega (arith, f .first, f .second))
+
+-- src/pack.rt:163:1
+returns : tie.Need-returns
+returns c = plain-packed _ _ _ _ _ _ (c .plain .ensures) refl refl refl refl (λ h. omega arith)
+
+pub part-spec : {M : Type 1} → statement M
+part-spec = tie.close (tie.spec plain-requires returns)

@@ -1,0 +1,2 @@
+pub mod Deviating
+pub mod Examining

@@ -1,0 +1,29 @@
+// The judge of answer sheets (document 01, "Judge").
+use rules::Refusal;
+
+mod answer;
+mod verdict;
+
+pub use answer::failing_part;
+pub use answer::failing_word;
+pub use answer::judge;
+
+// The place of the first test whose recorded answer is not the golden's, the first differing step, and the byte place of the
+// test in the dossier.
+pub enum Deviation {
+    Nowhere,
+    At(usize, usize, usize),
+}
+
+// What the judge answers, and of a test that deviates also where its inputs stand in the dossier and how many they are.
+pub enum Examined {
+    Agrees,
+    Deviates(usize, usize, usize, usize),
+    Refused(Refusal),
+}
+
+// A part of the dossier.
+pub struct WordPart {
+    pub place: usize,
+    pub size: usize,
+}

@@ -1,0 +1,3 @@
+pub mod Filing
+pub mod Looking
+pub mod Standing
