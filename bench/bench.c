@@ -1,8 +1,9 @@
-// Times the library against the C that was written by hand, on the dossiers that are named and their units. Both must answer
-// alike and leave the same output.
+// Times the library against the C that was written by hand, on the dossiers that are named, their units and their sheets. Both
+// must answer alike and leave the same output.
 //
-//   bench [NAME DOSSIER UNIT]...   a table: the operation, the name, the bytes of the dossier, the code of the answer, the
-//                                  best time of each, the library's over C's; and one of the stack that the library takes
+//   bench [NAME DOSSIER UNIT SHEET]...   a table: the operation, the name, the bytes of the dossier, the code of the answer,
+//                                        the best time of each, the library's over C's; and one of the stack that the
+//                                        library takes
 #include "baseline.h"
 #include "stack.h"
 
@@ -24,11 +25,11 @@ enum {
 };
 
 struct file {
-    byte bytes[1 << 17];
+    byte bytes[1 << 18];
     size length;
 };
 
-static struct file dossier, unit;
+static struct file dossier, unit, sheet;
 static byte output[1 << 16], library_output[1 << 16];
 
 static u64 library_check(void) { return hegdorvin_check(dossier.bytes, dossier.length); }
@@ -49,6 +50,9 @@ static u64 c_compare(void)
     return baseline_compare(dossier.bytes, dossier.length, unit.bytes, unit.length, output, sizeof output);
 }
 
+static u64 library_judge(void) { return hegdorvin_judge(dossier.bytes, dossier.length, sheet.bytes, sheet.length); }
+static u64 c_judge(void) { return baseline_judge(dossier.bytes, dossier.length, sheet.bytes, sheet.length); }
+
 // An operation of the library, the same by hand, how many times as long the library may take for a built dossier of 60 KB, and the
 // most bytes of stack that it took.
 static struct timed {
@@ -61,6 +65,7 @@ static struct timed {
     {"build", {library_build, c_build}, 3, 0},
     {"run", {library_run, c_run}, 3, 0},
     {"compare", {library_compare, c_compare}, 5, 0},
+    {"judge", {library_judge, c_judge}, 3, 0},
 };
 
 enum { OPERATIONS = sizeof operations / sizeof *operations };
@@ -150,9 +155,10 @@ int main(int count, char **words)
 {
     int good = 1;
     printf("| operation | dossier | bytes | code | library, ms | C, ms | ratio |\n|---|---|---|---|---|---|---|\n");
-    for (int i = 1; i + 2 < count; i += 3) {
+    for (int i = 1; i + 3 < count; i += 4) {
         read_file(words[i + 1], &dossier);
         read_file(words[i + 2], &unit);
+        read_file(words[i + 3], &sheet);
         for (int j = 0; j < OPERATIONS; j++) {
             good &= time_operation(&operations[j], words[i]);
             measure_stack(&operations[j]);

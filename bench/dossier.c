@@ -1,4 +1,4 @@
-// Reading a dossier or a unit, front to back.
+// Reading a dossier, a unit or a sheet, front to back.
 #include "dossier.h"
 
 struct reader {
@@ -71,19 +71,40 @@ static int get_table(struct reader *r, u32 inputs, u32 states, const byte **tabl
     return 1;
 }
 
+// A word, and its length.
+static int get_word(struct reader *r, u32 inputs, u32 longest, u32 *length)
+{
+    if (!get_byte(r, length)) return 0;
+    if (*length > longest) return refuse(r, BAD_WORD, r->place - 1);
+    for (u32 left = *length; left > 0; left--) {
+        u32 input;
+        if (!get_byte(r, &input)) return 0;
+        if (input >= inputs) return refuse(r, BAD_WORD, r->place - 1);
+    }
+    return 1;
+}
+
 static int get_words(struct reader *r, const struct dossier *d, u32 longest, struct section *section)
 {
+    u32 length;
     if (!get_count(r, &section->count)) return 0;
     section->place = r->place;
     for (size left = section->count; left > 0; left--) {
-        u32 length;
-        if (!get_byte(r, &length)) return 0;
-        if (length > longest) return refuse(r, BAD_WORD, r->place - 1);
-        for (; length > 0; length--) {
-            u32 input;
-            if (!get_byte(r, &input)) return 0;
-            if (input >= d->inputs) return refuse(r, BAD_WORD, r->place - 1);
-        }
+        if (!get_word(r, d->inputs, longest, &length)) return 0;
+    }
+    return 1;
+}
+
+// Each a word and as many outputs, which are any bytes.
+static int get_records(struct reader *r, u32 inputs, struct section *records)
+{
+    u32 length;
+    if (!get_count(r, &records->count)) return 0;
+    records->place = r->place;
+    for (size left = records->count; left > 0; left--) {
+        if (!get_word(r, inputs, LONGEST_TEST, &length)) return 0;
+        if (r->length - r->place < length) return refuse(r, CUT_SHORT, r->length);
+        r->place += length;
     }
     return 1;
 }
@@ -111,4 +132,11 @@ u64 read_unit(const byte *bytes, size length, struct unit *u)
     if (length > MOST_BYTES) return refusal_of(UNIT, TOO_LONG, 0, 0);
     int read = get_sizes(&r, 2, &u->inputs, &u->states) && get_table(&r, u->inputs, u->states, &u->table);
     return end(&r, read);
+}
+
+u64 read_sheet(const byte *bytes, size length, u32 inputs, struct section *records)
+{
+    struct reader r = {bytes, length, 0, SHEET, 0};
+    if (length > MOST_SHEET_BYTES) return refusal_of(SHEET, TOO_LONG, 0, 0);
+    return end(&r, get_records(&r, inputs, records));
 }

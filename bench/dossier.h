@@ -1,4 +1,4 @@
-// A dossier or a unit that is well formed: its numbers, and where its sections stand.
+// A dossier, a unit or a sheet that is well formed: its numbers, and where its sections stand.
 #ifndef DOSSIER_H
 #define DOSSIER_H
 
@@ -6,6 +6,7 @@
 
 enum {
     MOST_BYTES = 65535,
+    MOST_SHEET_BYTES = 131070,
     MOST_INPUTS = 16,
     MOST_STATES = 64,
     MOST_EXTRA = 4,
@@ -25,13 +26,16 @@ enum {
     NO_SEPARATOR,
     NOT_SEPARATED,
     MISSING,
-    OTHER_INPUTS = 15,
+    REPEATED,
+    FOREIGN,
+    ABSENT,
+    OTHER_INPUTS,
     TOO_MANY_STATES,
     NO_ROOM,
 };
 
 // What a refusal can concern.
-enum { DOSSIER = 1, UNIT, OUTPUT = 4 };
+enum { DOSSIER = 1, UNIT, SHEET, OUTPUT };
 
 // The place of the first word and how many there are.
 struct section {
@@ -51,11 +55,12 @@ struct unit {
     const byte *table;
 };
 
-// Each answers 0, or the packed refusal: of 1 to 6; of 1 to 10; of 1 to 11; of 1 to 6.
+// Each answers 0, or the packed refusal: of 1 to 6; of 1 to 10; of 1 to 11; of 1 to 6; of 1, 2, 5, 6.
 u64 read_dossier(const byte *bytes, size length, struct dossier *dossier);
 u64 read_sound(const byte *bytes, size length, struct dossier *dossier);
 u64 read_accepted(const byte *bytes, size length, struct dossier *dossier);
 u64 read_unit(const byte *bytes, size length, struct unit *unit);
+u64 read_sheet(const byte *bytes, size length, u32 inputs, struct section *records);
 
 static inline u64 refusal_of(u64 file, u64 number, u64 first, u64 second)
 {

@@ -2,6 +2,8 @@
 #ifndef NATIVE_H
 #define NATIVE_H
 
+#include "hegdorvin.h"
+
 typedef unsigned char byte;
 typedef unsigned short u16;
 typedef unsigned int u32;
@@ -14,11 +16,5 @@ int memcmp(const void *one, const void *other, size length);
 void *memcpy(void *to, const void *from, size length);
 void *memset(void *to, int value, size length);
 _Noreturn void exit(int status);
-
-u64 hegdorvin_check(const byte *dossier, size length);
-u64 hegdorvin_build(const byte *dossier, size length, byte *out, size room);
-u64 hegdorvin_run(const byte *dossier, size length, const byte *unit, size unit_length);
-u64 hegdorvin_cost(const byte *dossier, size length);
-u64 hegdorvin_compare(const byte *dossier, size length, const byte *unit, size unit_length, byte *out, size room);
 
 #endif

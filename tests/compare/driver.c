@@ -115,6 +115,8 @@ static u64 call(u32 operation)
     case 3: return hegdorvin_cost(place(&first), first.length);
     case 4:
         return hegdorvin_compare(place(&first), first.length, place(&second), second.length, place(&output), output.length);
+    case 5: return hegdorvin_judge(place(&first), first.length, place(&second), second.length);
+    case 6: return hegdorvin_judge_word(place(&first), first.length, place(&second), second.length);
     default: exit(3);
     }
 }

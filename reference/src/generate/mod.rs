@@ -16,6 +16,7 @@ mod worst;
 
 pub use dice::Dice;
 pub use edges::edges;
+pub use sheets::wrong_at_the_end;
 pub use timed::{timed, Timed};
 pub use worst::worst;
 

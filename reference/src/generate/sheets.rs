@@ -23,10 +23,45 @@ pub fn sheet_for(dice: &mut Dice, dossier: &Dossier) -> Sheet {
             add_foreign(dice, dossier, &mut records);
             drop_one(dice, &mut records);
         }
-        8 if dice.one_in(10) => fill(dice, dossier, &mut records),
+        8 if dice.one_in(10) => {
+            let wanted = MOST_SHEET_BYTES + dice.below(2);
+            fill(dice, dossier, &mut records, wanted);
+        }
         _ => {}
     }
     Sheet { records }
+}
+
+/// The golden's answers in any order.
+pub fn shuffled(dice: &mut Dice, dossier: &Dossier) -> Sheet {
+    let mut records = true_records(dossier);
+    dice.shuffle(&mut records);
+    Sheet { records }
+}
+
+/// The golden's answers in any order, and foreign records until the sheet is full.
+pub fn full(dice: &mut Dice, dossier: &Dossier) -> Sheet {
+    let Sheet { mut records } = shuffled(dice, dossier);
+    fill(dice, dossier, &mut records, MOST_SHEET_BYTES);
+    Sheet { records }
+}
+
+/// The golden's answers in any order, and the same with one thing wrong at its end: a record that
+/// is repeated, is foreign, is not there, or has another last output.
+pub fn wrong_at_the_end(dice: &mut Dice, dossier: &Dossier) -> Vec<Sheet> {
+    let Sheet { records } = shuffled(dice, dossier);
+    let mut repeated = records.clone();
+    repeated.extend(records.first().cloned());
+    let mut foreign = records.clone();
+    foreign.push(any_record(dice, dossier, usize::from(LONGEST_TEST)));
+    let mut absent = records.clone();
+    absent.pop();
+    let mut deviating = records.clone();
+    let last = deviating.last_mut();
+    let last = last.and_then(|record| record.answer.last_mut());
+    last.into_iter().for_each(|output| output.0 ^= 1);
+    let sheets = [records, repeated, foreign, absent, deviating].into_iter();
+    sheets.map(|records| Sheet { records }).collect()
 }
 
 /// One record for each word that is a test, with the golden's answer.
@@ -97,11 +132,10 @@ fn exchange_two_answers(dice: &mut Dice, records: &mut [Record]) {
     records[one].answer = std::mem::replace(&mut records[other].answer, answer);
 }
 
-/// Adds records until the sheet has 131,070 bytes, or one more. A record has an odd size.
-fn fill(dice: &mut Dice, dossier: &Dossier, records: &mut Vec<Record>) {
+/// Adds records until the sheet has so many bytes. A record has an odd size.
+fn fill(dice: &mut Dice, dossier: &Dossier, records: &mut Vec<Record>, wanted: usize) {
     let sizes = records.iter().map(|record| 1 + 2 * record.word.len());
     let size = 2 + sizes.sum::<usize>();
-    let wanted = MOST_SHEET_BYTES + dice.below(2);
     let mut room = wanted.saturating_sub(size);
     while room > 0 {
         let length = usize::from(LONGEST_TEST).min((room - 1) / 2);

@@ -1,28 +1,33 @@
-//! Dossiers and units to time the operations on: built dossiers of several sizes, and the worst
-//! that could be thought of.
+//! Dossiers, units and sheets to time the operations on: built dossiers of several sizes, and the
+//! worst that could be thought of.
 
 use super::dossiers::found;
-use super::{machines, units, worst, Dice};
+use super::{machines, sheets, units, worst, Dice};
 use crate::build::built_tests;
-use crate::files::{write_dossier, write_unit, Dossier};
+use crate::files::{write_dossier, write_sheet, write_unit, Dossier};
 use crate::sizes::{MOST_EXTRA_STATES, MOST_STATES};
 
-/// A dossier and what it is, and a unit that passes all its tests, so that none is left out.
+/// A dossier and what it is, a unit that passes all its tests, and a sheet that agrees with all, so
+/// that none is left out.
 #[derive(Clone)]
 pub struct Timed {
     pub name: String,
     pub dossier: Vec<u8>,
     pub unit: Vec<u8>,
+    pub sheet: Vec<u8>,
 }
 
 impl Timed {
-    /// With the largest unit that is the golden's equal.
+    /// With the largest unit that is the golden's equal, and the golden's answers in any order.
     pub fn new(name: String, dossier: &Dossier) -> Timed {
-        let unit = units::largest_equal(&mut Dice::new(1, 1), dossier);
+        let mut dice = Dice::new(1, 1);
+        let unit = units::largest_equal(&mut dice, dossier);
+        let sheet = sheets::shuffled(&mut dice, dossier);
         Timed {
             name,
             dossier: write_dossier(dossier),
             unit: write_unit(&unit),
+            sheet: write_sheet(&sheet),
         }
     }
 }

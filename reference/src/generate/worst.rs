@@ -2,9 +2,10 @@
 
 use super::dossiers::with_built_tests;
 use super::machines;
+use super::sheets;
 use super::timed::Timed;
 use super::Dice;
-use crate::files::{size_of_words, write_dossier, Dossier};
+use crate::files::{size_of_words, write_dossier, write_sheet, Dossier};
 use crate::machine::{GoldenState, Input, Machine, Output, Step, Word};
 use crate::needed::middles;
 use crate::sizes::{LONGEST_COVER_WORD, LONGEST_TEST, MOST_DOSSIER_BYTES, MOST_STATES};
@@ -17,12 +18,23 @@ pub fn worst() -> Vec<Timed> {
         timed("sixteen inputs, 4,369 middles", &wide_middles()),
         timed("sixteen children at every step", &long_chains()),
         timed("tests that share nothing", &large_trie()),
+        full_sheet(),
     ];
     [repeats(), latecomers(), others.to_vec(), too_large()].concat()
 }
 
 fn timed(name: &str, dossier: &Dossier) -> Timed {
     Timed::new(name.to_string(), dossier)
+}
+
+/// A sheet of 131,070 bytes, which has a record that is no test behind those of all tests.
+fn full_sheet() -> Timed {
+    let dossier = large_trie();
+    let sheet = sheets::full(&mut Dice::new(1, 1), &dossier);
+    Timed {
+        sheet: write_sheet(&sheet),
+        ..timed("a full sheet", &dossier)
+    }
 }
 
 /// Dossiers whose built tests would be far over the size.

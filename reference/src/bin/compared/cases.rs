@@ -1,9 +1,10 @@
 //! The cases that are tried: worked files and their damage, files at limits, and seeded ones.
 
 use reference::build::built_bytes;
-use reference::files::write_dossier;
+use reference::files::{read_dossier, write_dossier, write_sheet};
 use reference::generate::{
-    edges, limit_case, plain_case, with_damaged_dossier, with_thrown_dossier, worst, Case, Dice,
+    edges, limit_case, plain_case, with_damaged_dossier, with_thrown_dossier, worst,
+    wrong_at_the_end, Case, Dice,
 };
 use reference::sizes::{MOST_DOSSIER_BYTES, MOST_SHEET_BYTES};
 use reference::worked;
@@ -47,14 +48,17 @@ pub fn all(seed: u64, count: usize, examples: &Path) -> io::Result<impl Iterator
     let fixed = numbered("worked file", worked)
         .chain(numbered("damage to a worked file", damaged))
         .chain(numbered("damage to a unit", damaged_units(&example)))
+        .chain(numbered("damage to a sheet", damaged_sheets(&example)))
         .chain(numbered("edge", edges()))
         .chain(numbered("length", lengths(&example)))
         .chain(numbered("output", roomy));
     let worst = once_with(move || worst_cases(&example)).flatten();
+    let judged = worst.clone().flat_map(large_sheets);
     let worst = worst.flat_map(tight_rooms);
     let seeded = (0..).flat_map(move |draft| made_of_one(seed, draft));
     Ok(fixed
         .chain(numbered("worst dossier", worst))
+        .chain(numbered("large sheet", judged))
         .chain(numbered("seeded case", seeded.take(count))))
 }
 
@@ -100,6 +104,13 @@ fn with_unit(case: &Case, unit: Vec<u8>) -> Case {
     }
 }
 
+fn with_sheet(case: &Case, sheet: Vec<u8>) -> Case {
+    Case {
+        sheet,
+        ..case.clone()
+    }
+}
+
 /// Each byte of a file changed to each value, each length cut, and bytes put behind it.
 fn all_damage(whole: &[u8]) -> Vec<Vec<u8>> {
     let mut files = Vec::new();
@@ -126,6 +137,21 @@ fn damaged_dossiers(case: Case) -> Vec<Case> {
 fn damaged_units(case: &Case) -> Vec<Case> {
     let files = all_damage(&case.unit).into_iter();
     files.map(|file| with_unit(case, file)).collect()
+}
+
+fn damaged_sheets(case: &Case) -> Vec<Case> {
+    let files = all_damage(&case.sheet).into_iter();
+    files.map(|file| with_sheet(case, file)).collect()
+}
+
+/// Sheets of the case's dossier with one thing wrong at their end.
+fn large_sheets(case: Case) -> Vec<Case> {
+    let Ok(dossier) = read_dossier(&case.dossier) else {
+        return Vec::new();
+    };
+    let sheets = wrong_at_the_end(&mut Dice::new(1, 1), &dossier).into_iter();
+    let cases = sheets.map(|sheet| with_sheet(&case, write_sheet(&sheet)));
+    cases.collect()
 }
 
 /// The bytes that the built dossier takes. Where none is built the dossier's own length stands in,
@@ -182,14 +208,17 @@ fn lengths(case: &Case) -> Vec<Case> {
     };
     let dossiers = files(&case.dossier).map(|file| with_dossier(case, file));
     let units = files(&case.unit).map(|file| with_unit(case, file));
-    dossiers.chain(units).collect()
+    let sheets = files(&case.sheet).map(|file| with_sheet(case, file));
+    dossiers.chain(units).chain(sheets).collect()
 }
 
-/// The dossiers on which an operation has most to do, with units that pass all their tests.
+/// The dossiers on which an operation has most to do, with units that pass all their tests and
+/// sheets that agree with them.
 fn worst_cases(case: &Case) -> Vec<Case> {
     let cases = worst().into_iter().map(|timed| Case {
         dossier: timed.dossier,
         unit: timed.unit,
+        sheet: timed.sheet,
         ..case.clone()
     });
     cases.collect()

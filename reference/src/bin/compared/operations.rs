@@ -14,6 +14,7 @@ pub struct Lent<'a> {
 const NO_FILE: u64 = 0;
 const DOSSIER: u64 = 1;
 const UNIT: u64 = 2;
+const SHEET: u64 = 3;
 const OUTPUT: u64 = 4;
 
 /// A file that answers concern, and their codes.
@@ -38,8 +39,11 @@ const NOT_ACCEPTED: &[u64] = &[1, 2, 3, 4, 5, 6, 7, 8, 9, 10, 11];
 const NOT_COMPARED: &[u64] = &[1, 2, 3, 4, 6, 15];
 const NOT_RUN: &[u64] = &[1, 2, 3, 4, 6, 15, 16];
 
+/// A sheet has no numbers and no table.
+const NOT_JUDGED: &[u64] = &[1, 2, 5, 6, 12, 13, 14];
+
 /// Each in the place of its number in the driver.
-pub const OPERATIONS: [Operation; 5] = [
+pub const OPERATIONS: [Operation; 7] = [
     Operation {
         name: "check",
         lent: dossier_alone,
@@ -79,6 +83,22 @@ pub const OPERATIONS: [Operation; 5] = [
             (OUTPUT, &[17]),
         ],
     },
+    Operation {
+        name: "judge",
+        lent: dossier_and_sheet,
+        answer: |lent, _| pack::judge(lent.first, lent.second),
+        answers: &[
+            (NO_FILE, &[0, 31]),
+            (DOSSIER, NOT_ACCEPTED),
+            (SHEET, NOT_JUDGED),
+        ],
+    },
+    Operation {
+        name: "judge_word",
+        lent: dossier_and_sheet,
+        answer: |lent, _| pack::judge_word(lent.first, lent.second),
+        answers: &[(NO_FILE, &[0])],
+    },
 ];
 
 fn dossier_alone(case: &Case) -> Lent<'_> {
@@ -99,6 +119,13 @@ fn dossier_and_output(case: &Case) -> Lent<'_> {
 fn dossier_and_unit(case: &Case) -> Lent<'_> {
     Lent {
         second: &case.unit,
+        ..dossier_alone(case)
+    }
+}
+
+fn dossier_and_sheet(case: &Case) -> Lent<'_> {
+    Lent {
+        second: &case.sheet,
         ..dossier_alone(case)
     }
 }

@@ -1,4 +1,4 @@
-//! Writes the dossiers and units to time the operations on.
+//! Writes the dossiers, units and sheets to time the operations on.
 
 use reference::generate::timed;
 use std::fs;
@@ -7,8 +7,8 @@ use std::path::Path;
 use std::process::ExitCode;
 
 const USAGE: &str = "\
-usage: timed FOLDER   write each dossier and its unit to files of the folder, and print the name of
-                      the dossier and the two paths, a line each
+usage: timed FOLDER   write each dossier, its unit and its sheet to files of the folder, and print the
+                      name of the dossier and the three paths, a line each
 ";
 
 fn main() -> ExitCode {
@@ -27,12 +27,20 @@ fn main() -> ExitCode {
 }
 
 fn write_all(folder: &Path) -> io::Result<()> {
+    // The files take long to make: whether there is a place for them is asked first.
+    fs::read_dir(folder)?;
     for (number, timed) in timed().iter().enumerate() {
-        let dossier = folder.join(format!("dossier-{number}"));
-        let unit = folder.join(format!("unit-{number}"));
-        fs::write(&dossier, &timed.dossier)?;
-        fs::write(&unit, &timed.unit)?;
-        println!("{}\n{}\n{}", timed.name, dossier.display(), unit.display());
+        println!("{}", timed.name);
+        let files = [
+            ("dossier", &timed.dossier),
+            ("unit", &timed.unit),
+            ("sheet", &timed.sheet),
+        ];
+        for (sort, bytes) in files {
+            let path = folder.join(format!("{sort}-{number}"));
+            fs::write(&path, bytes)?;
+            println!("{}", path.display());
+        }
     }
     Ok(())
 }
