@@ -4,3 +4,4 @@ mod trial;
 
 pub use costing::cost;
 pub use trial::run;
+pub use trial::try_unit;

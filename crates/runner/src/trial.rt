@@ -47,7 +47,7 @@ fn try_tests(dossier: &[u8], x: DossierShape, unit: &[u8], y: UnitShape) -> Ran
 }
 
 // A unit against an accepted dossier: its 1 to 6, then 15 and 16, then the tests.
-fn try_unit(dossier: &[u8], x: DossierShape, unit: &[u8]) -> Ran
+pub fn try_unit(dossier: &[u8], x: DossierShape, unit: &[u8]) -> Ran
     requires { ⌜ AcceptedAt (now dossier) x ⌝ }
     ensures { λ r. ⌜ r ≡ runAnswer (now (dossier .entry)) (now (unit .entry)) ⌝ }
 {

@@ -1,0 +1,4 @@
+pub mod Verdicts
+pub mod Spots
+pub mod Failing
+pub mod Given

@@ -1,0 +1,53 @@
+use Rattle.line.proofs.Spots.{no-spot, refused-at, refused-only}
+use borrow.Author.Needs.{needs}
+use Rattle.line.proofs.refused.write_refusal.Statement.{statement}
+use Rattle.line.proofs.refused.write_refusal.Tie as tie
+
+number-of-requires : tie.Need-number-of-requires
+number-of-requires c κs = search needs
+
+slice-aggregate-put-text : tie.Need-slice-aggregate-put-text
+slice-aggregate-put-text c = search needs
+
+put-text-requires : tie.Need-put-text-requires
+put-text-requires c κs = search needs
+
+add-decimal-requires : tie.Need-add-decimal-requires
+add-decimal-requires c κs = search needs
+
+enum-known-r : tie.Need-enum-known-r
+enum-known-r c = search needs
+
+put-spot-requires : tie.Need-put-spot-requires
+put-spot-requires c κs = search needs
+
+put-line-feed-requires : tie.Need-put-line-feed-requires
+put-line-feed-requires c κs = search needs
+
+same-length : tie.Need-same-length
+same-length c = search needs
+
+returns : tie.Need-returns
+returns c = refused-at _ _ (c .before .before .before .before .before .before .before .before .before .before .before .before .before .before .before .before .number-of .ensures) _ _ _ _ _ _ _ _ (c .before .before .before .before .before .before .before .before .before .before .before .before .before .put-text .ensures) (c .before .before .before .before .before .before .before .before .before .add-decimal .ensures .0) _ _ _ (c .before .before .before .before .before .r .given .1) (c .before .before .put-spot .ensures)
+
+same-length-2 : tie.Need-same-length-2
+same-length-2 c = search needs
+
+returns-2 : tie.Need-returns-2
+returns-2 c = let r = c .before .before .before .before .before .before .before .before .before .before .before .before .before .before .before .before .args .r in refused-only r _ (c .before .before .before .before .before .before .before .before .before .before .before .before .before .before .number-of .ensures) _ _ _ _ _ _ _ _ (c .before .before .before .before .before .before .before .before .before .before .before .put-text .ensures) (c .before .before .before .before .before .before .before .add-decimal .ensures .0) (no-spot r (c .before .before .before .before .match .keys2)) (c .before .before .put-line-feed .ensures)
+
+pub write-refusal-spec : {M : Type 1} → statement M
+write-refusal-spec =
+    tie.close
+    (tie.spec
+    number-of-requires
+    slice-aggregate-put-text
+    put-text-requires
+    add-decimal-requires
+    enum-known-r
+    put-spot-requires
+    put-line-feed-requires
+    same-length
+    returns
+    same-length-2
+    returns-2)
