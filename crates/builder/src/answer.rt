@@ -1,58 +1,19 @@
 // The answers of build (document 01, refusals 1 to 10 and 17).
-use crate::write::write_built;
+use branches::Grown;
+use copyist::OVER_SIZE;
+use copyist::build_planted;
 use filing::node_bytes;
 use filing::node_links;
-use grower::Grown;
 use grower::grow_needed;
 use reader::DossierRead;
 use reader::DossierShape;
 use rules::Built;
-use rules::MOST_DOSSIER_BYTES;
 use rules::Refusal;
 use soundness::read_sound;
-use trie::Measured;
-use trie::measure;
 ghost use mathlib.Core.Path.{_≡_};
 ghost use lib.ListN.{length};
 ghost use Rattle.rules.specs.Promises.{BuildPromise};
-ghost use Rattle.builder.specs.Ready.{Buildable, Planted};
-
-// The answer for any dossier that is over its size.
-const OVER_SIZE: usize = 65536;
-
-// Over a trie of the needed words. The words are measured first, so that nothing is written unless all of it fits.
-fn build_planted(
-    bytes: &[u8],
-    x: DossierShape,
-    label: &[u8],
-    first: &[u16],
-    next: &[u16],
-    out: &mut [u8],
-) -> Built
-    requires { ⌜ Planted (now bytes) x (now label) (now first) (now next) ⌝ }
-    ensures { λ r. ⌜ BuildPromise (now (bytes .entry)) (now (out .entry)) r (now (out .exit)) ⌝ }
-{
-    match measure(
-        label,
-        first,
-        next,
-        x.inputs,
-        0,
-        0,
-        MOST_DOSSIER_BYTES,
-        0,
-        x.tests,
-    ) {
-        Measured::Fits(words, size) => {
-            if out.len() < size {
-                return Built::Refused(Refusal::NoRoom(size));
-            }
-            write_built(bytes, x, label, first, next, words, out);
-            Built::Written(size)
-        }
-        Measured::Over => Built::Refused(Refusal::NoRoom(OVER_SIZE)),
-    }
-}
+ghost use Rattle.copyist.specs.Ready.{Buildable};
 
 // Over arrays with a place for each node. Where the needed words have more nodes, their bytes are over the size too.
 fn build_in(

@@ -1,7 +1,5 @@
 // The checker of dossiers (document 01, refusals 1 to 11).
 mod answer;
-mod enough;
-mod search;
 
 pub use answer::accept;
 pub use answer::check;

@@ -1,9 +1,2 @@
-pub mod Marking
-pub mod Order
-pub mod Spelled
-pub mod Looks
-pub mod Searching
-pub mod Telling
-pub mod Trying
 pub mod Backwards
 pub mod Answering

@@ -1,5 +1,1 @@
-pub mod Pairs
-pub mod Marks
-pub mod Queue
-pub mod Search
 pub mod Found

@@ -1,9 +1,7 @@
 // The comparison (document 01, "Compare", and its refusals: the dossier's 1 to 6, the unit's 1 to 6, 15, 17).
-use crate::pairs::Sides;
-use crate::queue::no_entries;
-use crate::search::Found;
-use crate::search::search;
 use crate::spelling::write_telling;
+use pairs::Sides;
+use pairs::no_entries;
 use reader::DossierRead;
 use reader::DossierShape;
 use reader::UnitRead;
@@ -12,8 +10,10 @@ use reader::read_dossier;
 use reader::read_unit;
 use rules::Compared;
 use rules::Refusal;
+use teller::Found;
+use teller::search;
 ghost use Rattle.rules.specs.Promises.{ComparePromise};
-ghost use Rattle.comparer.specs.Pairs.{goldenAt, unitAt, SidesAt};
+ghost use Rattle.pairs.specs.Pairs.{goldenAt, unitAt, SidesAt};
 ghost use Rattle.comparer.specs.Found.{AnswersFirst, Stand};
 
 // The answer for two machines over the same inputs. EQUAL writes nothing.

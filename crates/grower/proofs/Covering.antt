@@ -26,12 +26,12 @@ use Rattle.trie.specs.Words.{Has, word-root, end-word}
 use Rattle.trie.specs.Values.{marksOf, Noted}
 use Rattle.filing.specs.Distinct.{FirstPlaces}
 use Rattle.filing.proofs.Once.{firsts-few, first-place, first-in, first-there}
-use Rattle.grower.specs.declared.Grown.{Grown}
-use Rattle.grower.specs.declared.Grown.the-variants.{Nodes, Full}
+use Rattle.branches.specs.declared.Grown.{Grown}
+use Rattle.branches.specs.declared.Grown.the-variants.{Nodes, Full}
 use Rattle.grower.specs.Grown.{Within, Needs}
-use Rattle.grower.specs.Growing.{Separator, Separators, Listed, Behind, Grows, Done, Ready, Grew, GrewOf}
-use Rattle.grower.proofs.Grows.{behind-none, grows-has, grows-none, grows-then, grows-wider, grows-word, done-start, done-grows}
-use Rattle.grower.proofs.Branching.{grew-after}
+use Rattle.branches.specs.Growing.{Separator, Separators, Listed, Behind, Grows, Done, Ready, Grew, GrewOf}
+use Rattle.branches.proofs.Grows.{behind-none, grows-has, grows-none, grows-then, grows-wider, grows-word, done-start, done-grows}
+use Rattle.branches.proofs.Branching.{grew-after}
 
 -- One cover word: it is put in, and then all behind it.
 module _ (k : ℕ) (W : Word → Type 0) (most : ℕ) (w v : Word) (is-back : W v) (t : Trie) (label first next done : List ℕ) (count : ℕ)
@@ -233,10 +233,3 @@ listed-firsts s p k c numbers places n stand room once =
 
 pub listed-separators : (s places : List ℕ) (n : ℕ) (ws : List Word) → Listed s places n ws → 0 < n → Separators s places n
 listed-separators s places n ws listed one = record { one = one; listed = listed .long; whole = listed .whole }
-
--- the bound is near the states
-pub bound-near : (s : List ℕ) (x : DossierShape) → Lent s x → (x .states ≤ boundOf (x .states) (x .«bound_byte»)) × (boundOf (x .states) (x .«bound_byte») ≤ x .states + 4)
-bound-near s x lent =
-    let stands = lent .stands in
-    let same : boundOf (x .states) (x .«bound_byte») ≡ bound (lent .held) = λ i. boundOf (stands .states i) (stands .bound-byte i) in
-    (omega (arith, same, stands .states, stands .sized .bound-least), omega (arith, same, stands .states, stands .sized .bound-near))

@@ -1,3 +1,1 @@
-pub mod Grows
-pub mod Branching
 pub mod Covering

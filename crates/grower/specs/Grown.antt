@@ -9,8 +9,8 @@ use Rattle.rules.specs.Needed.{IsNeeded}
 use Rattle.trie.specs.Model.{Trie, size, Proper}
 use Rattle.trie.specs.Holds.{Holds}
 use Rattle.trie.specs.Words.{Has}
-use Rattle.grower.specs.declared.Grown.{Grown}
-use Rattle.grower.specs.declared.Grown.the-variants.{Nodes, Full}
+use Rattle.branches.specs.declared.Grown.{Grown}
+use Rattle.branches.specs.declared.Grown.the-variants.{Nodes, Full}
 
 -- it has no other words than the beginnings of needed words
 abbrev pub Within : DossierData → Trie → Type 0

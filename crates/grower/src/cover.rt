@@ -1,6 +1,6 @@
 // The needed words of a dossier, one cover word after the other.
-use crate::Grown;
-use crate::branch::grow;
+use branches::Grown;
+use branches::grow;
 use filing::find_firsts;
 use filing::put_word;
 use filing::put_words;
@@ -21,7 +21,7 @@ ghost use Rattle.trie.specs.Model.{Trie, size};
 ghost use Rattle.trie.specs.Holds.{Holds};
 ghost use Rattle.soundness.specs.Lent.{Lent};
 ghost use Rattle.grower.specs.Grown.{GrownOf};
-ghost use Rattle.grower.specs.Growing.{Separator, Separators, Listed, Done, Ready, BranchOf};
+ghost use Rattle.branches.specs.Growing.{Separator, Separators, Listed, Done, Ready, BranchOf};
 
 // Grows all that is needed behind the cover word at a place, where middles may have `left` inputs.
 fn grow_cover(

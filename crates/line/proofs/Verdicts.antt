@@ -26,7 +26,7 @@ use Rattle.reader.specs.declared.UnitRead.the-variants.{Holds as UnitHolds, Ref
 use Rattle.reader.specs.Shapes.{dossierRead, unitRead}
 use Rattle.reader.specs.Standing.{DossierStands, UnitStands}
 use Rattle.reader.proofs.Held.{unit-held}
-use Rattle.runner.specs.Trials.{AcceptedAt}
+use Rattle.checker.specs.Accepted.{AcceptedAt}
 use Rattle.runner.proofs.Running.{run-unchecked, run-malformed-unit}
 use Rattle.line.specs.Lines.{passesLine, failsOf, UnitAt, FailingAt}
 

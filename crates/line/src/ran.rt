@@ -25,7 +25,7 @@ ghost use Prim.Native.Nat.{_+_, _*_, _≤_, _<_};
 ghost use lib.ListN.{length, replicate};
 ghost use Rattle.rules.specs.Words.{Valid};
 ghost use Rattle.rules.specs.Line.{decimal, runLine};
-ghost use Rattle.runner.specs.Trials.{AcceptedAt};
+ghost use Rattle.checker.specs.Accepted.{AcceptedAt};
 ghost use Rattle.writer.specs.Puts.{Puts, Ends, mostDigits};
 ghost use Rattle.line.specs.Lines.{lineRoom, passesLine, failsOf, UnitAt, FailingAt, RunLinePromise};
 

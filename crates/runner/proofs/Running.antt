@@ -1,58 +1,33 @@
 -- Laws of run's order: all of check, the unit's 1 to 6, then 15 and 16.
 use Prim.Native.Nat.{ℕ, _≤_, _<_}
 use native.Mathlib.Omega.{arith}
-use mathlib.Core.Path.{_≡_, sym, _∙_, ap, subst}
-use mathlib.Core.Logic.{_⊎_, inl, inr}
+use mathlib.Core.Path.{_≡_, sym, _∙_}
 use mathlib.Core.List.{List}
 use borrow.Author.Tests.{eq-eqb, ne-eqb, le-leb, lt-leb}
 use Rattle.rules.specs.declared.Refusal.{Refusal}
 use Rattle.rules.specs.declared.Refusal.the-variants.{OtherInputs, TooManyStates}
 use Rattle.rules.specs.declared.Ran.the-variants.{Refused as RunRefused}
 use Rattle.rules.specs.Sizes.{boundOf}
-use Rattle.rules.specs.Files.{DossierData, UnitData, bound}
-use Rattle.rules.specs.Operations.{fine, refuse, readUnit, check, run, runAnswer}
+use Rattle.rules.specs.Files.{UnitData, bound}
+use Rattle.rules.specs.Operations.{fine, readUnit, check, run, runAnswer}
 use Rattle.rules.specs.Promises.{RunPromise}
 use Rattle.reader.specs.declared.DossierShape.{DossierShape}
 use Rattle.reader.specs.declared.DossierRead.{DossierRead}
-use Rattle.reader.specs.declared.DossierRead.the-variants.{Holds as DossierHolds, Refused as DossierRefused}
+use Rattle.reader.specs.declared.DossierRead.the-variants.{Refused as DossierRefused}
 use Rattle.reader.specs.declared.UnitShape.{UnitShape}
 use Rattle.reader.specs.declared.UnitRead.{UnitRead}
 use Rattle.reader.specs.declared.UnitRead.the-variants.{Holds as UnitHolds, Refused as UnitRefused}
-use Rattle.reader.specs.Shapes.{dossierShape, dossierRead, unitRead}
-use Rattle.reader.specs.Standing.{DossierStands, UnitStands}
-use Rattle.reader.proofs.Held.{dossier-stands, unit-held, unit-not-held}
-use Rattle.theory.specs.Outcomes.{settled}
-use Rattle.theory.specs.Check.{check-accepts}
-use Rattle.runner.specs.Trials.{AcceptedAt, TrialAt}
+use Rattle.reader.specs.Shapes.{dossierRead, unitRead}
+use Rattle.reader.specs.Standing.{UnitStands}
+use Rattle.reader.proofs.Held.{unit-held, unit-not-held}
+use Rattle.checker.specs.Accepted.{AcceptedAt}
+use Rattle.checker.proofs.Accepting.{not-accepted}
+use Rattle.trials.specs.Trials.{TrialAt}
 
 -- what `accept` answered
-module _ (s : List ℕ) (r : DossierRead) (e : r ≡ dossierRead (check s)) where
-  pub accepted-at : (x : DossierShape) → r ≡ DossierHolds x → AcceptedAt s x
-  accepted-at x is = go (settled (check s))
-    where
-      go : ((d : DossierData) × (check s ≡ fine d)) ⊎ ((f : Refusal) × (check s ≡ refuse f)) → AcceptedAt s x
-      go (inl (d, checks)) =
-          let both : DossierHolds (dossierShape d) ≡ DossierHolds x = sym (e ∙ ap dossierRead checks) ∙ is in
-          let shape : dossierShape d ≡ x = cc in
-          record { held = d; checks = checks; stands = subst (λ x. DossierStands s x d) shape (dossier-stands s d (check-accepts s d .0 checks .0)) }
-      go (inr (f, bad)) =
-          let both : DossierRefused f ≡ DossierHolds x = sym (e ∙ ap dossierRead bad) ∙ is in
-          let z : _≡_ {A = ℕ} 0 1 = cc in
-          absurd (omega arith)
-
-  pub run-unchecked : (t : List ℕ) (f : Refusal) → r ≡ DossierRefused f → RunPromise s t (RunRefused f)
-  unfolding run
-  run-unchecked t f is = go (settled (check s))
-    where
-      go : ((d : DossierData) × (check s ≡ fine d)) ⊎ ((g : Refusal) × (check s ≡ refuse g)) → RunPromise s t (RunRefused f)
-      go (inl (d, checks)) =
-          let both : DossierHolds (dossierShape d) ≡ DossierRefused f = sym (e ∙ ap dossierRead checks) ∙ is in
-          let z : _≡_ {A = ℕ} 0 1 = cc in
-          absurd (omega arith)
-      go (inr (g, bad)) =
-          let both : DossierRefused g ≡ DossierRefused f = sym (e ∙ ap dossierRead bad) ∙ is in
-          let same : g ≡ f = cc in
-          rw (bad, same)
+pub run-unchecked : (s : List ℕ) (r : DossierRead) → r ≡ dossierRead (check s) → (t : List ℕ) (f : Refusal) → r ≡ DossierRefused f → RunPromise s t (RunRefused f)
+unfolding run
+run-unchecked s r e t f is = rw (not-accepted s r e f is)
 
 -- what `read_unit` answered, of a unit for an accepted dossier
 module _ (s : List ℕ) (x : DossierShape) (a : AcceptedAt s x) (t : List ℕ) (r : UnitRead) (e : r ≡ unitRead (readUnit t)) where

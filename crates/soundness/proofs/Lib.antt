@@ -1,6 +1,3 @@
-pub mod Sections
-pub mod Marks
-pub mod Known
-pub mod Rows
+pub mod Sized
 pub mod Soundness
 pub mod Behind

@@ -1,10 +1,7 @@
 // Whether the word sets of a dossier reach each state and tell each two apart (document 01, refusals 1 to 10).
 use rules::Refusal;
 
-mod apart;
-mod reach;
 mod sound;
-mod words;
 
 pub use sound::read_sound;
 

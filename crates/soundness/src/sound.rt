@@ -1,10 +1,10 @@
 // What the refusals 7 to 10 ask of a dossier that is well formed.
 use crate::Finding;
-use crate::apart::PairFound;
-use crate::apart::unseparated;
-use crate::reach::StateFound;
-use crate::reach::unreached;
-use crate::words::has_empty_word;
+use apart::PairFound;
+use apart::unseparated;
+use reach::StateFound;
+use reach::has_empty_word;
+use reach::unreached;
 use reader::DossierRead;
 use reader::DossierShape;
 use reader::read_dossier;

@@ -3,6 +3,4 @@ pub mod Holds
 pub mod Grow
 pub mod Words
 pub mod Values
-pub mod Visits
-pub mod Maximal
 pub mod Sizes

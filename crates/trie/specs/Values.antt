@@ -48,12 +48,6 @@ pub record Noted (t : Trie) (m : Map) (value : List ℕ) : Type 0 where
   pub blank : (i : ℕ) → size t ≤ i → getD value i 0 ≡ 0
   pub there : (w : Word) → (valueOf m w ≡ 0 → ⊥) → Has t w
 
--- what putting v for the word w answers
-abbrev pub PutOf : Trie → Map → Word → ℕ → List ℕ → List ℕ → List ℕ → List ℕ → Inserted → Type 0
-PutOf t m w v label first next value (inserted.Put node count) =
-    (node ≡ endOf t 0 w) × (count ≡ size (addWord t 0 w)) × Holds (addWord t 0 w) label first next × Noted (addWord t 0 w) (put m w v) value
-PutOf t m w v label first next value inserted.Full = length label < size (addWord t 0 w)
-
 module _ (m : Map) (u : Word) (v : ℕ) where
   pub value-same : (w : Word) → u ≡ w → valueOf (put m u v) w ≡ v
   unfolding valueOf
@@ -138,20 +132,6 @@ module _ (t : Trie) (w : Word) (l f n : List ℕ) (r : Inserted) (node k : ℕ) 
   insert-below =
       let d = insert-done in
       (omega (arith, d .0, d .2 .room, end-word v 0 w (size-pos t) .0), d .2 .small)
-
-module _ (t : Trie) (m : Map) (w : Word) (v : ℕ) (l f n x l′ f′ n′ : List ℕ) (r : Inserted) (h : Holds t l f n) (noted : Noted t m x) (done : InsertOf t 0 w l′ f′ n′ r) where
-  pub put-done : (node k : ℕ) → length x ≡ length l → length l′ ≡ length l → r ≡ inserted.Put node k → PutOf t m w v l′ f′ n′ (set x node v) (inserted.Put node k)
-  put-done node k long long′ e =
-      let d = insert-done t w l′ f′ n′ r node k (h .proper) done e in
-      let (less, word) = end-word (h .proper) 0 w (size-pos t) in
-      let t′ = addWord t 0 w in
-      let below : node < size t′ = omega (arith, d .0) in
-      let is : wordOf t′ node ≡ w = rw (d .0) (word ∙ rw (word-root t)) in
-      let put′ = noted-put t′ m x (d .2 .proper) (noted-grown t m x (h .proper) noted 0 w (size-pos t)) node v below (omega (arith, d .2 .room)) in
-      (d .0, d .1, d .2, rw is at put′)
-
-  pub put-full : r ≡ inserted.Full → PutOf t m w v l′ f′ n′ x inserted.Full
-  put-full e = rw e at done
 
 -- What was put.
 

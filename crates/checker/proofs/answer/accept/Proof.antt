@@ -4,7 +4,7 @@ use Rattle.checker.proofs.answer.accept.Statement.{statement}
 use Rattle.checker.proofs.answer.accept.Tie as tie
 use Rattle.checker.proofs.answer.accept.Reads as reads
 use Rattle.checker.proofs.answer.accept.Lts as lts
-use Rattle.checker.proofs.enough.find_lacking.Reads as find-lacking-reads
+use Rattle.enough.proofs.find_lacking.Reads as find-lacking-reads
 use Rattle.soundness.proofs.read_sound.Reads as read-sound-reads
 
 -- src/answer.rt:16:11

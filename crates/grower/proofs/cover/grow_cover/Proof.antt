@@ -9,7 +9,7 @@ use Rattle.grower.proofs.cover.grow_cover.Tie as tie
 use Rattle.grower.proofs.cover.grow_cover.Reads as reads
 use Rattle.grower.proofs.cover.grow_cover.Lts as lts
 use Rattle.filing.proofs.put_word.Reads as put-word-reads
-use Rattle.grower.proofs.branch.grow.Reads as grow-reads
+use Rattle.branches.proofs.grow.Reads as grow-reads
 
 -- src/cover.rt:55:9
 put-word-requires : tie.Need-put-word-requires

@@ -4,8 +4,9 @@ use borrow.Author.Needs.{needs}
 use lib.ListN.{length}
 use Rattle.reader.specs.Places.{wordsAt, WordsAt}
 use Rattle.reader.specs.Turns.{word-turn, word-room, words-after}
-use Rattle.grower.specs.Growing.{Separator}
-use Rattle.grower.proofs.Covering.{Covering, covering-start, covering-ready, covering-full, covering-next, grown-full, grown-nodes, listed-separators, bound-near}
+use Rattle.branches.specs.Growing.{Separator}
+use Rattle.grower.proofs.Covering.{Covering, covering-start, covering-ready, covering-full, covering-next, grown-full, grown-nodes, listed-separators}
+use Rattle.soundness.proofs.Sized.{bound-near}
 use Rattle.grower.proofs.cover.grow_covers.Statement.{statement}
 use Rattle.grower.proofs.cover.grow_covers.Tie as tie
 use Rattle.grower.proofs.cover.grow_covers.Reads as reads

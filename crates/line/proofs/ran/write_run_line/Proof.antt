@@ -1,4 +1,4 @@
-use Rattle.runner.proofs.Running.{accepted-at}
+use Rattle.checker.proofs.Accepting.{accepted-at}
 use Rattle.line.proofs.Verdicts.{unchecked-line}
 use borrow.Author.Needs.{needs}
 use Rattle.line.proofs.ran.write_run_line.Statement.{statement}

@@ -1,6 +1,7 @@
 use mathlib.Core.Path.{ap}
 use Rattle.rules.specs.Answers.{runSays}
-use Rattle.runner.proofs.Running.{accepted-at, run-unchecked}
+use Rattle.checker.proofs.Accepting.{accepted-at}
+use Rattle.runner.proofs.Running.{run-unchecked}
 use borrow.Author.Needs.{needs}
 use Rattle.runner.proofs.trial.run.Statement.{statement}
 use Rattle.runner.proofs.trial.run.Tie as tie

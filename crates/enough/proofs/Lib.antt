@@ -1,0 +1,2 @@
+pub mod Untested
+pub mod Lacking

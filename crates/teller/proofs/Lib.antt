@@ -1,0 +1,5 @@
+pub mod Order
+pub mod Leading
+pub mod Searching
+pub mod Telling
+pub mod Trying

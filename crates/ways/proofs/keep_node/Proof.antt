@@ -1,0 +1,35 @@
+use mathlib.Core.Path.{sym}
+use lib.Seq.{set-out}
+use borrow.Author.Needs.{needs}
+use Rattle.ways.proofs.keep_node.Statement.{statement}
+use Rattle.ways.proofs.keep_node.Tie as tie
+use Rattle.ways.proofs.keep_node.Reads as reads
+use Rattle.ways.proofs.keep_node.Lts as lts
+
+-- src/lib.rt:61:20
+cast-nodes : tie.Need-cast-nodes
+cast-nodes c = search needs
+
+-- src/lib.rt:61:9
+mul-nodes : tie.Need-mul-nodes
+mul-nodes c = search needs
+
+-- src/lib.rt:61:9
+slice-write-nodes : tie.Need-slice-write-nodes
+slice-write-nodes c = search needs
+
+-- src/lib.rt:56:1
+same-length : tie.Need-same-length
+same-length c = search needs
+
+-- src/lib.rt:56:1
+returns : tie.Need-returns
+returns c = search needs
+
+-- src/lib.rt:56:1
+returns-2 : tie.Need-returns-2
+returns-2 c = sym (set-out _ _ _ (c .if1 .left))
+
+pub keep-node-spec : {M : Type 1} → statement M
+keep-node-spec =
+    tie.close (tie.spec cast-nodes mul-nodes slice-write-nodes same-length returns returns-2)
