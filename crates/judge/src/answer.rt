@@ -75,7 +75,7 @@ fn examine_in(
 }
 
 // Pairing and verdict of an accepted dossier and a well-formed sheet.
-fn examine_both(dossier: &[u8], x: DossierShape, sheet: &[u8], y: SheetShape) -> Examined
+pub fn examine_both(dossier: &[u8], x: DossierShape, sheet: &[u8], y: SheetShape) -> Examined
     requires { ⌜ Handed (now dossier) x (now sheet) y ⌝ }
     ensures { λ r. ⌜ r ≡ examinedOf (now (dossier .entry)) (now (sheet .entry)) ⌝ }
 {

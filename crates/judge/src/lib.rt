@@ -4,6 +4,7 @@ use rules::Refusal;
 mod answer;
 mod verdict;
 
+pub use answer::examine_both;
 pub use answer::failing_part;
 pub use answer::failing_word;
 pub use answer::judge;

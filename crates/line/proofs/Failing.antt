@@ -15,7 +15,7 @@ use Rattle.reader.specs.Places.{machineAt, wordAt, wordsAt, TableAt}
 use Rattle.reader.specs.Turns.{words-count}
 use Rattle.line.specs.Lines.{failsOf, FailingAt}
 
-valid-wider : (k m : ℕ) (w : Word) → k ≤ m → Valid k w → Valid m w
+pub valid-wider : (k m : ℕ) (w : Word) → k ≤ m → Valid k w → Valid m w
 valid-wider k m [] wider valid = tt
 valid-wider k m (a ∷ w) wider (below, valid) = (omega arith, valid-wider k m w wider valid)
 

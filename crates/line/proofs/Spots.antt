@@ -11,8 +11,8 @@ use Rattle.rules.specs.declared.Refusal.the-variants.{Malformed, NoEmptyWord, U
 use Rattle.rules.specs.Answers.{numberOf}
 use Rattle.rules.specs.Line.{text, decimal, letter, spot, refusalLine}
 use Rattle.rules.proofs.Refusal.{the-type}
-use Rattle.writer.specs.Puts.{Puts, Ends}
-use Rattle.writer.proofs.Lines.{first-word, next-word, last-word}
+use Rattle.writer.specs.Puts.{Puts, Closes}
+use Rattle.writer.proofs.Lines.{feed-closes, next-closes, first-closes}
 
 -- all refusals but the first case of the enum
 abbrev others : List ℕ
@@ -35,8 +35,8 @@ no-spot (NoRoom n) other = refl
 -- `REFUSED` and the number n have been written
 module _ (r : Refusal) (n : ℕ) (number : n ≡ numberOf r) (out said numbered last : List ℕ) (p q a b : ℕ)
     (first : Puts out p (text "REFUSED") said q) (second : Puts said q (text " " ++ decimal n) numbered a) where
-  pub refused-at : (fault : Fault) (f : File) (place : ℕ) → r ≡ Malformed fault f place → Ends numbered a (letter f ∷ decimal place ∷ []) last b → Puts out p (refusalLine r) last b
-  refused-at fault f place is rest = rw (← number, is) (first-word first (next-word second rest))
+  pub refused-at : (fault : Fault) (f : File) (place : ℕ) → r ≡ Malformed fault f place → Closes numbered a (letter f ∷ decimal place ∷ []) last b → Puts out p (refusalLine r) last b
+  refused-at fault f place is rest = rw (← number, is) (first-closes first (next-closes second rest))
 
   pub refused-only : spot r ≡ [] → Puts numbered a (text "\n") last b → Puts out p (refusalLine r) last b
-  refused-only none feed = rw (← number, none) (first-word first (last-word second feed))
+  refused-only none feed = rw (← number, none) (first-closes first (next-closes second (feed-closes feed)))

@@ -8,7 +8,6 @@ use Rattle.rules.specs.Machines.{answer}
 use Rattle.rules.specs.Files.{DossierData, UnitData, golden, unit}
 use Rattle.rules.specs.Operations.{fine, readUnit}
 use Rattle.rules.specs.Line.{text, decimal, hex, line, runLine}
-use Rattle.rules.specs.Promises.{LinePromise}
 use Rattle.theory.specs.Lists.{At}
 use Rattle.reader.specs.declared.DossierShape.{DossierShape}
 use Rattle.reader.specs.declared.UnitShape.{UnitShape}
@@ -45,9 +44,13 @@ pub record FailingAt (s : List ℕ) (x : DossierShape) (t : List ℕ) (y : UnitS
   pub step : j < length test
   pub says : runLine s t ≡ failsOf i j test (getD (answer (golden dossier) test) j 0) (getD (answer (unit tried) test) j 0)
 
--- What `run_line` gives: the line at the front of its bytes, and behind it nothing but zeros.
-pub record RunLinePromise (goldenFile unitFile : List ℕ) (r : Line) : Type 0 where
-  pub line : LinePromise goldenFile unitFile (take (r .length) (r .bytes))
+-- What a line says: the text at the front of its bytes, and behind it nothing but zeros.
+pub record Says (said : List ℕ) (r : Line) : Type 0 where
+  pub printed : take (r .length) (r .bytes) ≡ said
   pub within : r .length ≤ lineRoom
   pub size : length (r .bytes) ≡ lineRoom
-  pub rest : drop (r .length) (r .bytes) ≡ drop (r .length) (replicate lineRoom 0)
+  pub behind : drop (r .length) (r .bytes) ≡ drop (r .length) (replicate lineRoom 0)
+
+-- what `run_line` gives
+abbrev pub RunLinePromise : List ℕ → List ℕ → Line → Type 0
+RunLinePromise goldenFile unitFile r = Says (runLine goldenFile unitFile) r

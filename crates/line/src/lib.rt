@@ -2,8 +2,10 @@
 mod ran;
 mod refused;
 
+pub use ran::no_text;
 pub use ran::run_line;
 pub use refused::number_of;
+pub use refused::put_spot;
 pub use refused::write_refusal;
 
 // Room for every line: a text, four numbers and a word, with spaces and the line feed.

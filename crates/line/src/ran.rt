@@ -26,7 +26,7 @@ ghost use lib.ListN.{length, replicate};
 ghost use Rattle.rules.specs.Words.{Valid};
 ghost use Rattle.rules.specs.Line.{decimal, runLine};
 ghost use Rattle.checker.specs.Accepted.{AcceptedAt};
-ghost use Rattle.writer.specs.Puts.{Puts, Ends, mostDigits};
+ghost use Rattle.writer.specs.Puts.{Puts, Closes, mostDigits};
 ghost use Rattle.line.specs.Lines.{lineRoom, passesLine, failsOf, UnitAt, FailingAt, RunLinePromise};
 
 fn write_passes(count: usize, out: &mut [u8]) -> usize
@@ -41,7 +41,7 @@ fn write_passes(count: usize, out: &mut [u8]) -> usize
 // The golden's output and the unit's, which end a line.
 fn put_outputs(expected: Output, given: Output, out: &mut [u8], at: usize) -> usize
     requires { ⌜ at + 3 + 2 * mostDigits ≤ length (now out) ⌝ }
-    ensures { λ r. ⌜ Ends (now (out .entry)) at (decimal (expected .0) ∷ decimal (given .0) ∷ []) (now (out .exit)) r ⌝ }
+    ensures { λ r. ⌜ Closes (now (out .entry)) at (decimal (expected .0) ∷ decimal (given .0) ∷ []) (now (out .exit)) r ⌝ }
 {
     let answered = add_decimal(expected.number() as usize, out, at);
     let compared = add_decimal(given.number() as usize, out, answered);
@@ -127,7 +127,7 @@ fn write_run_line(golden: &[u8], unit: &[u8], out: &mut [u8]) -> usize
 }
 
 // A function of its own, so that no goal of another function writes the zeros out.
-fn no_text() -> [u8; LINE_ROOM]
+pub fn no_text() -> [u8; LINE_ROOM]
     ensures { λ r. ⌜ r ≡ replicate lineRoom 0 ⌝ }
 {
     [0; LINE_ROOM]

@@ -12,7 +12,7 @@ ghost use Prim.Native.Nat.{_+_, _≤_};
 ghost use lib.ListN.{length};
 ghost use Rattle.rules.specs.Answers.{faultNumber, numberOf};
 ghost use Rattle.rules.specs.Line.{decimal, letter, refusalLine};
-ghost use Rattle.writer.specs.Puts.{Puts, Ends, mostDigits};
+ghost use Rattle.writer.specs.Puts.{Puts, Closes, mostDigits};
 ghost use Rattle.line.specs.Lines.{lineRoom};
 
 fn fault_number(fault: Fault) -> usize
@@ -60,9 +60,9 @@ fn initial(file: File) -> u8
 }
 
 // The letter of a file and a place in it, which end a line.
-fn put_spot(file: File, place: usize, out: &mut [u8], at: usize) -> usize
+pub fn put_spot(file: File, place: usize, out: &mut [u8], at: usize) -> usize
     requires { ⌜ at + 4 + mostDigits ≤ length (now out) ⌝ }
-    ensures { λ r. ⌜ Ends (now (out .entry)) at (letter file ∷ decimal place ∷ []) (now (out .exit)) r ⌝ }
+    ensures { λ r. ⌜ Closes (now (out .entry)) at (letter file ∷ decimal place ∷ []) (now (out .exit)) r ⌝ }
 {
     let spaced = put_byte(b' ', out, at);
     let lettered = put_byte(initial(file), out, spaced);

@@ -1,4 +1,4 @@
-use Rattle.writer.proofs.Lines.{next-word, last-word}
+use Rattle.writer.proofs.Lines.{feed-closes, next-closes}
 use borrow.Author.Needs.{needs}
 use Rattle.line.proofs.ran.put_outputs.Statement.{statement}
 use Rattle.line.proofs.ran.put_outputs.Tie as tie
@@ -28,7 +28,7 @@ same-length : tie.Need-same-length
 same-length c = search needs
 
 returns : tie.Need-returns
-returns c = rw (← (c .before .before .before .before .before .before .before .before .before .before .before .before .before .number .ensures), ← (c .before .before .before .before .before .before .before .before .number2 .ensures)) (next-word (c .before .before .before .before .before .before .before .before .before .before .before .add-decimal .ensures .0) (last-word (c .before .before .before .before .before .before .add-decimal2 .ensures .0) (c .before .before .put-line-feed .ensures)))
+returns c = rw (← (c .before .before .before .before .before .before .before .before .before .before .before .before .before .number .ensures), ← (c .before .before .before .before .before .before .before .before .number2 .ensures)) (next-closes (c .before .before .before .before .before .before .before .before .before .before .before .add-decimal .ensures .0) (next-closes (c .before .before .before .before .before .before .add-decimal2 .ensures .0) (feed-closes (c .before .before .put-line-feed .ensures))))
 
 pub put-outputs-spec : {M : Type 1} → statement M
 put-outputs-spec =

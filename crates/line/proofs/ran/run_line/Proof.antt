@@ -13,7 +13,7 @@ write-run-line-requires : tie.Need-write-run-line-requires
 write-run-line-requires c κs = search needs
 
 returns : tie.Need-returns
-returns c = line-given _ _ _ _ _ (c .before .before .before .no-text .ensures) (c .before .write-run-line .ensures)
+returns c = line-given _ _ _ _ (c .before .before .before .no-text .ensures) (c .before .write-run-line .ensures)
 
 pub run-line-spec : {M : Type 1} → statement M
 run-line-spec =

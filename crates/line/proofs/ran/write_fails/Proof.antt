@@ -1,4 +1,4 @@
-use Rattle.writer.proofs.Lines.{first-word, next-word}
+use Rattle.writer.proofs.Lines.{next-closes, first-closes}
 use borrow.Author.Needs.{needs}
 use Rattle.line.proofs.ran.write_fails.Statement.{statement}
 use Rattle.line.proofs.ran.write_fails.Tie as tie
@@ -25,7 +25,7 @@ same-length : tie.Need-same-length
 same-length c = search needs
 
 returns : tie.Need-returns
-returns c = first-word (c .before .before .before .before .before .before .before .before .before .before .before .before .before .before .before .before .before .before .put-text .ensures) (next-word (c .before .before .before .before .before .before .before .before .before .before .before .before .before .before .add-decimal .ensures .0) (next-word (c .before .before .before .before .before .before .before .before .before .before .add-decimal2 .ensures .0) (next-word (c .before .before .before .before .before .before .add-hex .ensures .0) (c .before .before .put-outputs .ensures))))
+returns c = first-closes (c .before .before .before .before .before .before .before .before .before .before .before .before .before .before .before .before .before .before .put-text .ensures) (next-closes (c .before .before .before .before .before .before .before .before .before .before .before .before .before .before .add-decimal .ensures .0) (next-closes (c .before .before .before .before .before .before .before .before .before .before .add-decimal2 .ensures .0) (next-closes (c .before .before .before .before .before .before .add-hex .ensures .0) (c .before .before .put-outputs .ensures))))
 
 pub write-fails-spec : {M : Type 1} → statement M
 write-fails-spec =

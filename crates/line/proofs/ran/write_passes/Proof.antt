@@ -1,4 +1,4 @@
-use Rattle.writer.proofs.Lines.{first-word, last-word}
+use Rattle.writer.proofs.Lines.{feed-closes, next-closes, first-closes}
 use borrow.Author.Needs.{needs}
 use Rattle.line.proofs.ran.write_passes.Statement.{statement}
 use Rattle.line.proofs.ran.write_passes.Tie as tie
@@ -19,7 +19,7 @@ same-length : tie.Need-same-length
 same-length c = search needs
 
 returns : tie.Need-returns
-returns c = first-word (c .before .before .before .before .before .before .before .before .before .before .put-text .ensures) (last-word (c .before .before .before .before .before .before .add-decimal .ensures .0) (c .before .before .put-line-feed .ensures))
+returns c = first-closes (c .before .before .before .before .before .before .before .before .before .before .put-text .ensures) (next-closes (c .before .before .before .before .before .before .add-decimal .ensures .0) (feed-closes (c .before .before .put-line-feed .ensures)))
 
 pub write-passes-spec : {M : Type 1} → statement M
 write-passes-spec =

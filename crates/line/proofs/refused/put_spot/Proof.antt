@@ -1,4 +1,4 @@
-use Rattle.writer.proofs.Lines.{next-word, last-word}
+use Rattle.writer.proofs.Lines.{feed-closes, next-closes}
 use Rattle.writer.proofs.Writing.{puts-then}
 use borrow.Author.Needs.{needs}
 use Rattle.line.proofs.refused.put_spot.Statement.{statement}
@@ -23,7 +23,7 @@ same-length : tie.Need-same-length
 same-length c = search needs
 
 returns : tie.Need-returns
-returns c = next-word (rw (← (c .before .before .before .before .before .before .before .before .before .before .before .before .initial .ensures)) (puts-then (c .before .before .before .before .before .before .before .before .before .before .before .before .before .before .before .put-byte .ensures) (c .before .before .before .before .before .before .before .before .before .before .put-byte2 .ensures))) (last-word (c .before .before .before .before .before .before .add-decimal .ensures .0) (c .before .before .put-line-feed .ensures))
+returns c = next-closes (rw (← (c .before .before .before .before .before .before .before .before .before .before .before .before .initial .ensures)) (puts-then (c .before .before .before .before .before .before .before .before .before .before .before .before .before .before .before .put-byte .ensures) (c .before .before .before .before .before .before .before .before .before .before .put-byte2 .ensures))) (next-closes (c .before .before .before .before .before .before .add-decimal .ensures .0) (feed-closes (c .before .before .put-line-feed .ensures)))
 
 pub put-spot-spec : {M : Type 1} → statement M
 put-spot-spec =

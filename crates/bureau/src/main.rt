@@ -1,0 +1,186 @@
+// The bureau's program: `check D`, `build D OUT`, `run D U`, `compare D U`, `judge D S` and `cost D`, with the names of
+// files. It reads them, asks for the line of the operation, and prints it (docs/LINES.md).
+use libc::STDOUT_FILENO;
+use line::Line;
+use rules::MOST_DOSSIER_BYTES;
+use ruling::judge_line;
+use wording::build_line;
+use wording::check_line;
+use wording::compare_line;
+use wording::cost_line;
+use wording::trial_line;
+ghost use mathlib.Core.Path.{_≡_};
+ghost use Prim.Native.Nat.{_≤_};
+ghost use lib.ListN.{length};
+ghost use Rattle.io.specs.Counts.{Counts};
+ghost use Rattle.rules.specs.Words.{same};
+ghost use Rattle.line.specs.Lines.{lineRoom};
+
+// One byte more than a sheet may have.
+const SHEET_ROOM: usize = 131071;
+
+fn sheet_buffer() -> [u8; SHEET_ROOM]
+    ensures { λ r. ⌜ 131071 ≡ length r ⌝ }
+{
+    [0; SHEET_ROOM]
+}
+
+// As long as a built dossier may be.
+fn built_buffer() -> [u8; MOST_DOSSIER_BYTES]
+    ensures { λ r. ⌜ 65535 ≡ length r ⌝ }
+{
+    [0; MOST_DOSSIER_BYTES]
+}
+
+// The first bytes of the file that an argument names, as many as buf holds, which is more than a file may have. A file that
+// cannot be opened counts as empty, and one that cannot be read to its end as ended there.
+fn load(argument: usize, buf: &mut [u8]) -> usize
+    ensures { λ r. ⌜ Counts r (now (buf .exit)) ⌝ }
+{
+    let mut path = io::buffer();
+    let n = os::arg(argument, &mut path);
+    let fd = os::open_read(&path[..n]);
+    if fd < 0 {
+        return io::count(0, buf);
+    }
+    let got = io::read_full(fd, buf);
+    libc::close(fd);
+    got
+}
+
+// Whether the file that an argument names now has these bytes.
+fn save(argument: usize, bytes: &[u8]) -> bool {
+    let mut path = io::buffer();
+    let n = os::arg(argument, &mut path);
+    let fd = os::open_overwrite(&path[..n]);
+    if fd < 0 {
+        return false;
+    }
+    let is_written = io::write_all(fd, bytes);
+    libc::close(fd);
+    is_written
+}
+
+fn print(line: Line)
+    requires { ⌜ (line .length ≤ lineRoom) × (length (line .bytes) ≡ lineRoom) ⌝ }
+{
+    let bytes = line.bytes;
+    let n = line.length;
+    io::write_all(STDOUT_FILENO, &bytes[..n]);
+}
+
+fn print_check() {
+    let mut dossier = io::large_buffer();
+    let d = load(2, &mut dossier);
+    print(check_line(&dossier[..d]));
+}
+
+fn print_cost() {
+    let mut dossier = io::large_buffer();
+    let d = load(2, &mut dossier);
+    print(cost_line(&dossier[..d]));
+}
+
+fn print_run() {
+    let mut dossier = io::large_buffer();
+    let mut unit = io::large_buffer();
+    let d = load(2, &mut dossier);
+    let u = load(3, &mut unit);
+    print(trial_line(&dossier[..d], &unit[..u]));
+}
+
+fn print_compare() {
+    let mut dossier = io::large_buffer();
+    let mut unit = io::large_buffer();
+    let d = load(2, &mut dossier);
+    let u = load(3, &mut unit);
+    print(compare_line(&dossier[..d], &unit[..u]));
+}
+
+fn print_judge() {
+    let mut dossier = io::large_buffer();
+    let mut sheet = sheet_buffer();
+    let d = load(2, &mut dossier);
+    let s = load(3, &mut sheet);
+    print(judge_line(&dossier[..d], &sheet[..s]));
+}
+
+// A file is made only where there is a built dossier to put there, and the line is printed once the file has it.
+fn print_build() {
+    let mut dossier = io::large_buffer();
+    let mut out = built_buffer();
+    let d = load(2, &mut dossier);
+    let built = build_line(&dossier[..d], &mut out);
+    let n = built.length;
+    if 0 < n {
+        if !save(3, &out[..n]) {
+            io::write_all(STDOUT_FILENO, b"UNWRITTEN\n");
+            return;
+        }
+    }
+    let line = built.line;
+    print(line);
+}
+
+fn is_word(given: &[u8], name: &[u8]) -> bool
+    ensures { λ r. ⌜ r ≡ same (now (given .entry)) (now (name .entry)) ⌝ }
+{
+    if given.len() != name.len() {
+        return false;
+    }
+    let mut i = 0;
+    while i < name.len() {
+        if given[i] != name[i] {
+            return false;
+        }
+        i += 1;
+    }
+    true
+}
+
+fn print_usage() {
+    io::write_all(
+        STDOUT_FILENO,
+        b"usage: bureau check D | build D OUT | run D U | compare D U | judge D S | cost D\n",
+    );
+}
+
+// An operation on one file.
+fn print_of_one(operation: &[u8]) {
+    if is_word(operation, b"check") {
+        print_check();
+    } else if is_word(operation, b"cost") {
+        print_cost();
+    } else {
+        print_usage();
+    }
+}
+
+// An operation on two files.
+fn print_of_two(operation: &[u8]) {
+    if is_word(operation, b"build") {
+        print_build();
+    } else if is_word(operation, b"run") {
+        print_run();
+    } else if is_word(operation, b"compare") {
+        print_compare();
+    } else if is_word(operation, b"judge") {
+        print_judge();
+    } else {
+        print_usage();
+    }
+}
+
+// The program's own name and the operation come before the names of files.
+fn main() {
+    let mut operation = io::buffer();
+    let n = os::arg(1, &mut operation);
+    let words = os::arg_count();
+    if words == 3 {
+        print_of_one(&operation[..n]);
+    } else if words == 4 {
+        print_of_two(&operation[..n]);
+    } else {
+        print_usage();
+    }
+}
