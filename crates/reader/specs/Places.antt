@@ -59,11 +59,6 @@ recordsAt s p zero = []
 recordsAt s p (suc c) =
     record { word = wordAt s p; recorded = outputsAt s (afterWord s p) (getD s p 0) } ∷ recordsAt s (afterRecord s p) c
 
--- the place of the record number i
-unfoldable pub recordPlace : List ℕ → ℕ → ℕ → ℕ
-recordPlace s p zero = p
-recordPlace s p (suc i) = recordPlace s (afterRecord s p) i
-
 -- What a reading that went well leaves: a table of k inputs and n states at p, all of whose next states are states.
 pub record TableAt (s : List ℕ) (p k n : ℕ) : Type 0 where
   pub start : 0 < n

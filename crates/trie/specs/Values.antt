@@ -1,15 +1,14 @@
 -- Numbers by node: what an operation remembers of words. A node has the number of its word, or 0.
 use Prim.Native.Nat.{ℕ, _≤_, _<_}
 use mathlib.Core.Path.{_≡_, refl, sym, ap, _∙_}
-use mathlib.Core.List.{List, [], _∷_, List·Memᴰ·head, List·Memᴰ·tail, List·Memᴰ·not-nil, List·Memᴰ·cases-cons}
+use mathlib.Core.List.{List, [], _∷_}
 use mathlib.Core.Bool.{Bool, true, false, cond, not, _||_}
-use mathlib.Core.Logic.{inl, inr, _↔_}
+use mathlib.Core.Logic.{inl, inr}
 use native.Mathlib.Omega.{arith}
 use native.Mathlib.Decide.{ℕ-discrete, decLt}
 use lib.Dec.{eqb}
 use lib.ListN.{length, getD, set}
 use lib.Seq.{getD-set-same, getD-set-other}
-use Rattle.rules.specs.Lists.{_∈_}
 use Rattle.rules.specs.Words.{Word, same, isIn}
 use Rattle.theory.specs.Lists.{outcome}
 use Rattle.theory.specs.Words.{same-true, same-refl, same-false, differ-same}
@@ -31,11 +30,6 @@ pub data Map : Type 0 where
 unfoldable pub valueOf : Map → Word → ℕ
 valueOf empty w = 0
 valueOf (put m u v) w = cond (same u w) v (valueOf m w)
-
--- the words that were put, the last one first
-unfoldable pub wordsIn : Map → List Word
-wordsIn empty = []
-wordsIn (put m u v) = u ∷ wordsIn m
 
 -- marks are numbers too: 1 for each marked word
 unfoldable pub marksOf : List Word → Map
@@ -132,47 +126,6 @@ module _ (t : Trie) (w : Word) (l f n : List ℕ) (r : Inserted) (node k : ℕ) 
   insert-below =
       let d = insert-done in
       (omega (arith, d .0, d .2 .room, end-word v 0 w (size-pos t) .0), d .2 .small)
-
--- What was put.
-
--- v was put for the word at some time
-pub data Had : Map → Word → ℕ → Type 0 where
-  had-last : {m : Map} {u w : Word} {v : ℕ} → u ≡ w → Had (put m u v) w v
-  had-before : {m : Map} {u w : Word} {v x : ℕ} → Had m w x → Had (put m u v) w x
-
--- a number that a look-up finds was put for that word: record numbers from 1 on find their record
-pub value-had : (m : Map) (w : Word) → (valueOf m w ≡ 0 → ⊥) → Had m w (valueOf m w)
-value-had empty w n = absurd (n (unfold valueOf in refl))
-value-had (put m u v) w n =
-    elim (outcome (same u w)) [
-      | inl e ↦ rw (value-same m u v w (same-true u w e)) (had-last (same-true u w e))
-      | inr o ↦
-          let k = value-other m u v w (same-false o) in
-          rw k (had-before (value-had m w (λ z. n (k ∙ z))))
-    ]
-
--- no number that was put is 0
-abbrev pub NoZero : Map → Type 0
-NoZero empty = Unit {0}
-NoZero (put m u v) = (v ≡ 0 → ⊥) × NoZero m
-
--- the words with a number are then those that were put
-pub put-words : (m : Map) → NoZero m → (w : Word) → (valueOf m w ≡ 0 → ⊥) ↔ (w ∈ wordsIn m)
-unfolding wordsIn
-put-words empty k w = ((λ n. absurd (n (unfold valueOf in refl))), (λ i e. List·Memᴰ·not-nil i))
-put-words (put m u v) (some, k) w =
-    elim (outcome (same u w)) [
-      | inl e ↦ ((λ n. List·Memᴰ·head (sym (same-true u w e))), (λ i z. some (sym (value-same m u v w (same-true u w e)) ∙ z)))
-      | inr o ↦
-          let other = value-other m u v w (same-false o) in (
-            (λ n. List·Memᴰ·tail (put-words m k w .0 (λ z. n (other ∙ z)))),
-            (λ i z.
-                elim (List·Memᴰ·cases-cons i) [
-                  | inl e ↦ same-false o (sym e)
-                  | inr j ↦ put-words m k w .1 j (sym other ∙ z)
-                ]),
-          )
-    ]
 
 same-sym : (u w : Word) → same u w ≡ same w u
 same-sym u w =

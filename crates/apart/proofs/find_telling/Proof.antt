@@ -23,43 +23,33 @@ Inv-loop bytes p q table inputs states left₀ word₀ left word = WordsAt bytes
 abbrev μ-loop : tie.MeasureT-loop
 μ-loop bytes p q table inputs states left₀ word₀ left word = left
 
--- src/lib.rt:29:5
 loop-holds : tie.Need-loop-holds Inv-loop μ-loop
 loop-holds c = (c .before .pre .0 .words, λ v m. m, refl)
 
--- src/lib.rt:30:13
 answer-alike-requires : tie.Need-answer-alike-requires Inv-loop μ-loop
 answer-alike-requires c κs = (c .before .before .before .pre .0 .table, (c .before .before .before .pre .1, word-turn _ _ _ _ (c .loop-test .taken) (c .before .loop .inv .0) .here))
 
--- src/lib.rt:31:13
 returns : tie.Need-returns Inv-loop μ-loop
 returns c = let a = c .before .before .before .before .before .args in let test = alikeOn (machineAt (a .bytes .now) (a .x .table) (a .x .inputs) (a .x .states)) (a .p .0) (a .q .0) in let all-words : Word → Type 0 = λ v. v ∈ wordsAt (a .bytes .now) (a .x .separating) (a .x .separators) in (record { stands = word-turn _ _ _ _ (c .before .before .loop-test .taken) (c .before .before .before .loop .inv .0) .here; member = word-member (a .bytes .now) (c .before .before .before .loop .word) (a .x .inputs) (c .before .before .before .loop .left) 0 (c .before .before .loop-test .taken) (c .before .before .before .loop .inv .0) all-words (c .before .before .before .loop .inv .1) }, sym (c .before .answer-alike .ensures) ∙ not-true _ (c .if1 .taken))
 
--- src/lib.rt:33:16
 add-word : tie.Need-add-word Inv-loop μ-loop
 add-word c = let h = word-turn _ _ _ _ (c .before .before .loop-test .taken) (c .before .before .before .loop .inv .0) .here .inside in omega arith
 
--- src/lib.rt:33:27
 word-length-requires : tie.Need-word-length-requires Inv-loop μ-loop
 word-length-requires c κs = word-turn _ _ _ _ (c .before .before .loop-test .taken) (c .before .before .before .loop .inv .0) .here .inside
 
--- src/lib.rt:33:16
 add-word-2 : tie.Need-add-word-2 Inv-loop μ-loop
 add-word-2 c = let h = word-room _ _ _ _ _ (c .before .before .before .loop-test .taken) (c .before .before .before .before .loop .inv .0) (c .word-length .ensures .1) in omega arith
 
--- src/lib.rt:34:9
 sub-left : tie.Need-sub-left Inv-loop μ-loop
 sub-left c = search needs
 
--- src/lib.rt:29:5
 loop-less : tie.Need-loop-less Inv-loop μ-loop
 loop-less c = search needs
 
--- src/lib.rt:29:5
 loop-again : tie.Need-loop-again Inv-loop μ-loop
 loop-again c = let a = c .before .before .before .before .before .before .args in let test = alikeOn (machineAt (a .bytes .now) (a .x .table) (a .x .inputs) (a .x .states)) (a .p .0) (a .q .0) in let all-words : Word → Type 0 = λ v. v ∈ wordsAt (a .bytes .now) (a .x .separating) (a .x .separators) in (words-after _ _ _ _ _ (c .before .before .before .loop-test .taken) (c .before .before .before .before .loop .inv .0) (c .word-length .ensures .1), rest-members _ _ _ _ _ (c .before .before .before .loop-test .taken) (c .before .before .before .before .loop .inv .0) (c .word-length .ensures .1) all-words (c .before .before .before .before .loop .inv .1), c .before .before .before .before .loop .inv .2 ∙ all-next _ _ _ _ _ (c .before .before .before .loop-test .taken) (c .before .before .before .before .loop .inv .0) (c .word-length .ensures .1) test (sym (c .before .before .answer-alike .ensures) ∙ not-false _ (c .before .if1 .left)))
 
--- src/lib.rt:19:1
 returns-2 : tie.Need-returns-2 Inv-loop μ-loop
 returns-2 c = let a = c .before .before .before .args in let test = alikeOn (machineAt (a .bytes .now) (a .x .table) (a .x .inputs) (a .x .states)) (a .p .0) (a .q .0) in let all-words : Word → Type 0 = λ v. v ∈ wordsAt (a .bytes .now) (a .x .separating) (a .x .separators) in c .before .loop .inv .2 ∙ all-end _ _ _ test (c .loop-test .left)
 

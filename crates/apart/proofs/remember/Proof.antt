@@ -6,23 +6,18 @@ use Rattle.apart.proofs.remember.Tie as tie
 use Rattle.apart.proofs.remember.Reads as reads
 use Rattle.apart.proofs.remember.Lts as lts
 
--- src/lib.rt:60:9
 returns : tie.Need-returns
 returns c = search needs
 
--- src/lib.rt:63:5
 mul-places : tie.Need-mul-places
 mul-places c = search needs
 
--- src/lib.rt:63:5
 array-write-places : tie.Need-array-write-places
 array-write-places c = search needs
 
--- src/lib.rt:66:16
 add-t6 : tie.Need-add-t6
 add-t6 c = search needs
 
--- src/lib.rt:55:1
 returns-2 : tie.Need-returns-2
 returns-2 c = λ s x at new. remembered s x (c .before .before .args .known) (c .before .before .args .place) (omega (arith, c .before .if1 .left)) at new
 

@@ -9,35 +9,27 @@ use Rattle.apart.proofs.find_telling.Reads as find-telling-reads
 use Rattle.apart.proofs.remember.Reads as remember-reads
 use Rattle.apart.proofs.told_by_known.Reads as told-by-known-reads
 
--- src/lib.rt:107:8
 told-by-known-requires : tie.Need-told-by-known-requires
 told-by-known-requires c κs = search needs
 
--- src/lib.rt:108:9
 returns : tie.Need-returns
 returns c = (sym (c .before .told-by-known .ensures (c .if1 .taken)), c .before .before .before .pre .1 .1)
 
--- src/lib.rt:113:11
 find-telling-requires : tie.Need-find-telling-requires
 find-telling-requires c κs = search needs
 
--- src/lib.rt:114:21
 enum-known-place : tie.Need-enum-known-place
 enum-known-place c = search needs
 
--- src/lib.rt:115:17
 remember-requires : tie.Need-remember-requires
 remember-requires c κs = search needs
 
--- src/lib.rt:121:28
 enum-told : tie.Need-enum-told
 enum-told c = search needs
 
--- src/lib.rt:101:1
 returns-2 : tie.Need-returns-2
 returns-2 c = let a = c .before .before .before .before .before .before .before .before .args in let t = rw (c .before .before .place .given .1) at (c .before .before .before .before .find-telling .ensures) in (sym (told-apart (a .bytes .now) (a .x) (a .p .0) (a .q .0) _ (t .0) (t .1)), c .remember .ensures (a .bytes .now) (a .x) (c .before .before .before .before .before .before .before .before .pre .1 .1) (t .0))
 
--- src/lib.rt:101:1
 returns-3 : tie.Need-returns-3
 returns-3 c = (sym (rw (c .enum-told .given .1) at (c .before .before .find-telling .ensures)), c .before .before .before .before .before .before .pre .1 .1)
 

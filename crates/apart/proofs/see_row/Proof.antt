@@ -21,47 +21,36 @@ Inv-loop bytes x p states known₀ q₀ known q = (q ≤ states) × KnownAt byte
 abbrev μ-loop : tie.MeasureT-loop
 μ-loop bytes x p states known₀ q₀ known q = states - q
 
--- src/lib.rt:139:17
 add-q : tie.Need-add-q Inv-loop μ-loop
 add-q c = search needs
 
--- src/lib.rt:140:5
 loop-holds : tie.Need-loop-holds Inv-loop μ-loop
 loop-holds c = (omega (arith, c .before .pre .1 .0), c .before .pre .1 .1, refl)
 
--- src/lib.rt:141:39
 numbered-requires : tie.Need-numbered-requires Inv-loop μ-loop
 numbered-requires c κs = search needs
 
--- src/lib.rt:141:65
 numbered-requires-2 : tie.Need-numbered-requires-2 Inv-loop μ-loop
 numbered-requires-2 c κs = search needs
 
--- src/lib.rt:141:13
 see-pair-requires : tie.Need-see-pair-requires Inv-loop μ-loop
 see-pair-requires c κs = (c .before .before .before .before .before .pre .0, ((omega (arith, c .before .numbered .ensures, c .before .before .before .before .before .pre .1 .0), omega (arith, c .numbered2 .ensures, c .before .before .loop-test .taken)), c .before .before .before .loop .inv .1))
 
--- src/lib.rt:146:39
 numbered-requires-3 : tie.Need-numbered-requires-3 Inv-loop μ-loop
 numbered-requires-3 c κs = search needs
 
--- src/lib.rt:145:13
 returns : tie.Need-returns Inv-loop μ-loop
 returns c = let a = c .before .before .before .before .before .before .before .before .before .args in let G = goldenAt (a .bytes .now) (a .x) in let ws = separatorsAt (a .bytes .now) (a .x) in (state-found _ (c .before .before .before .before .before .before .before .loop .q) _ (c .numbered3 .ensures) (c .before .before .before .before .before .before .before .loop .inv .2 ∙ lowest-here (alike G ws (a .p)) (a .x .states) (c .before .before .before .before .before .before .before .loop .q) (c .before .before .before .before .before .before .loop-test .taken) (seen-is G ws (a .p) _ (c .before .before .before .before .before .before .before .loop .q) _ _ _ (c .before .before .before .see-pair .ensures .0) (c .before .before .before .before .before .numbered .ensures) (c .before .before .before .before .numbered2 .ensures) (c .before .if1 .taken))), c .before .before .before .see-pair .ensures .1)
 
--- src/lib.rt:150:9
 add-q-2 : tie.Need-add-q-2 Inv-loop μ-loop
 add-q-2 c = search needs
 
--- src/lib.rt:140:5
 loop-less : tie.Need-loop-less Inv-loop μ-loop
 loop-less c = search needs
 
--- src/lib.rt:140:5
 loop-again : tie.Need-loop-again Inv-loop μ-loop
 loop-again c = let a = c .before .before .before .before .before .before .before .before .args in let G = goldenAt (a .bytes .now) (a .x) in let ws = separatorsAt (a .bytes .now) (a .x) in (search needs, c .before .before .see-pair .ensures .1, c .before .before .before .before .before .before .loop .inv .2 ∙ lowest-next (alike G ws (a .p)) (a .x .states) (c .before .before .before .before .before .before .loop .q) (c .before .before .before .before .before .loop-test .taken) (seen-is G ws (a .p) _ (c .before .before .before .before .before .before .loop .q) _ _ _ (c .before .before .see-pair .ensures .0) (c .before .before .before .before .numbered .ensures) (c .before .before .before .numbered2 .ensures) (c .if1 .left)))
 
--- src/lib.rt:131:1
 returns-2 : tie.Need-returns-2 Inv-loop μ-loop
 returns-2 c = let a = c .before .before .before .args in let G = goldenAt (a .bytes .now) (a .x) in let ws = separatorsAt (a .bytes .now) (a .x) in (sym (ap stateFound (c .before .loop .inv .2 ∙ lowest-none (alike G ws (a .p)) (a .x .states) (c .before .loop .q) (c .loop-test .left))), c .before .loop .inv .1)
 

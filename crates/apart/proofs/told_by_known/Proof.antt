@@ -17,39 +17,30 @@ Inv-loop bytes p q table inputs states places count j₀ j = j ≤ count
 abbrev μ-loop : tie.MeasureT-loop
 μ-loop bytes p q table inputs states places count j₀ j = count - j
 
--- src/lib.rt:83:5
 loop-holds : tie.Need-loop-holds Inv-loop μ-loop
 loop-holds c = search needs
 
--- src/lib.rt:84:62
 mul-answer-alike : tie.Need-mul-answer-alike Inv-loop μ-loop
 mul-answer-alike c = search needs
 
--- src/lib.rt:84:62
 array-read-answer-alike : tie.Need-array-read-answer-alike Inv-loop μ-loop
 array-read-answer-alike c = omega (arith, c .before .before .before .before .pre .1 .1 .few)
 
--- src/lib.rt:84:13
 answer-alike-requires : tie.Need-answer-alike-requires Inv-loop μ-loop
 answer-alike-requires c κs = (c .before .before .before .before .pre .0 .table, (c .before .before .before .before .pre .1 .0, c .before .before .before .before .pre .1 .1 .separators (c .before .loop .j) (c .loop-test .taken) .stands))
 
--- src/lib.rt:85:13
 returns : tie.Need-returns Inv-loop μ-loop
 returns c = λ e. told-apart (c .before .before .before .before .before .before .args .bytes .now) (c .before .before .before .before .before .before .args .x) (c .before .before .before .before .before .before .args .p .0) (c .before .before .before .before .before .before .args .q .0) _ (c .before .before .before .before .before .before .pre .1 .1 .separators (c .before .before .before .loop .j) (c .before .before .loop-test .taken)) (sym (c .before .answer-alike .ensures) ∙ not-true _ (c .if1 .taken))
 
--- src/lib.rt:87:9
 add-j : tie.Need-add-j Inv-loop μ-loop
 add-j c = search needs
 
--- src/lib.rt:83:5
 loop-less : tie.Need-loop-less Inv-loop μ-loop
 loop-less c = search needs
 
--- src/lib.rt:83:5
 loop-again : tie.Need-loop-again Inv-loop μ-loop
 loop-again c = search needs
 
--- src/lib.rt:71:1
 returns-2 : tie.Need-returns-2 Inv-loop μ-loop
 returns-2 c = λ e. absurd (false≢true e)
 

@@ -20,70 +20,54 @@ Inv-loop bytes places n label₀ first₀ next₀ done nodes node count₀ e₀ 
 abbrev μ-loop : tie.MeasureT-loop
 μ-loop bytes places n label₀ first₀ next₀ done nodes node count₀ e₀ label first next count e = n - e
 
--- src/lib.rt:33:8
 shared-slice-read-if1 : tie.Need-shared-slice-read-if1 Inv-loop μ-loop
 shared-slice-read-if1 c = search needs
 
--- src/lib.rt:34:9
 returns : tie.Need-returns Inv-loop μ-loop
 returns c = λ k t h e d. grew-known _ _ t _ _ (omega (arith, c .before .before .before .before .before .before .before .before .pre .1 .1)) _ _ _ _ _ (omega (arith, c .if1 .taken)) h e d
 
--- src/lib.rt:38:5
 loop-holds : tie.Need-loop-holds Inv-loop μ-loop
 loop-holds c = (search needs, refl, refl, refl, λ k t h e. putting-start _ _ _ _ t _ _ _ _ _ h e)
 
--- src/lib.rt:39:35
 mul-put-word : tie.Need-mul-put-word Inv-loop μ-loop
 mul-put-word c = search needs
 
--- src/lib.rt:39:35
 shared-slice-read-put-word : tie.Need-shared-slice-read-put-word Inv-loop μ-loop
 shared-slice-read-put-word c = search needs
 
--- src/lib.rt:39:35
 cast-put-word : tie.Need-cast-put-word Inv-loop μ-loop
 cast-put-word c = omega (arith, c .shared-slice-known5 .given (c .before .before .loop .e))
 
--- src/lib.rt:39:13
 put-word-requires : tie.Need-put-word-requires Inv-loop μ-loop
 put-word-requires c κs =
     let p = c .before .before .before .before .before .before .before .before .before .before .before .before .before .before .pre in
     let v = p .1 .0 in
     (p .0 .whole _ (c .before .before .before .before .loop-test .taken), putting-counted _ _ _ _ _ _ _ _ _ _ _ (c .before .before .before .before .before .loop .inv .4 0 (v .trie) (v .holds) (v .counted)) (omega (arith, p .1 .1, v .counted)))
 
--- src/lib.rt:40:30
 enum-known-put : tie.Need-enum-known-put Inv-loop μ-loop
 enum-known-put c = search needs
 
--- src/lib.rt:41:13
 enum-told : tie.Need-enum-told Inv-loop μ-loop
 enum-told c = search needs
 
--- src/lib.rt:41:13
 same-length : tie.Need-same-length Inv-loop μ-loop
 same-length c = c .before .before .before .before .before .before .before .before .put-word .kept .1 .1 .0 ∙ c .before .before .before .before .before .before .before .before .before .before .before .before .before .before .loop .inv .1
 
--- src/lib.rt:41:13
 same-length-2 : tie.Need-same-length-2 Inv-loop μ-loop
 same-length-2 c = c .before .before .before .before .before .before .before .before .put-word .kept .1 .1 .1 .0 ∙ c .before .before .before .before .before .before .before .before .before .before .before .before .before .before .loop .inv .2
 
--- src/lib.rt:41:13
 same-length-3 : tie.Need-same-length-3 Inv-loop μ-loop
 same-length-3 c = c .before .before .before .before .before .before .before .before .put-word .kept .1 .1 .1 .1 .0 ∙ c .before .before .before .before .before .before .before .before .before .before .before .before .before .before .loop .inv .3
 
--- src/lib.rt:41:13
 returns-2 : tie.Need-returns-2 Inv-loop μ-loop
 returns-2 c = λ k t h e d. putting-full _ _ _ _ _ _ _ _ _ _ _ (c .before .before .before .before .before .before .before .before .before .before .before .before .before .before .loop .inv .4 k t h e) (omega (arith, c .before .before .before .before .before .before .before .before .before .before .before .before .before .before .before .before .before .before .before .before .before .before .before .pre .1 .1)) (c .before .before .before .before .before .before .before .before .before .before .before .before .before .loop-test .taken) _ _ _ _ (c .before .before .before .before .before .before .before .before .put-word .ensures) (c .enum-told .given .1)
 
--- src/lib.rt:44:9
 add-e : tie.Need-add-e Inv-loop μ-loop
 add-e c = search needs
 
--- src/lib.rt:38:5
 loop-less : tie.Need-loop-less Inv-loop μ-loop
 loop-less c = search needs
 
--- src/lib.rt:38:5
 loop-again : tie.Need-loop-again Inv-loop μ-loop
 loop-again c = (
   omega (arith, c .before .before .before .before .before .before .before .before .before .before .before .before .before .before .loop-test .taken),
@@ -93,19 +77,15 @@ loop-again c = (
   λ k t h e. putting-next _ _ _ _ _ _ _ _ _ _ _ (c .before .before .before .before .before .before .before .before .before .before .before .before .before .before .before .loop .inv .4 k t h e) (omega (arith, c .before .before .before .before .before .before .before .before .before .before .before .before .before .before .before .before .before .before .before .before .before .before .before .before .pre .1 .1)) (c .before .before .before .before .before .before .before .before .before .before .before .before .before .before .loop-test .taken) _ _ _ _ (c .before .before .before .before .before .before .before .before .before .put-word .ensures) _ _ (c .before .put .given .1),
 )
 
--- src/lib.rt:18:1
 same-length-4 : tie.Need-same-length-4 Inv-loop μ-loop
 same-length-4 c = c .before .loop .inv .1
 
--- src/lib.rt:18:1
 same-length-5 : tie.Need-same-length-5 Inv-loop μ-loop
 same-length-5 c = c .before .loop .inv .2
 
--- src/lib.rt:18:1
 same-length-6 : tie.Need-same-length-6 Inv-loop μ-loop
 same-length-6 c = c .before .loop .inv .3
 
--- src/lib.rt:18:1
 returns-3 : tie.Need-returns-3 Inv-loop μ-loop
 returns-3 c = λ k t h e d. putting-end _ _ _ _ _ _ _ _ _ _ _ (c .before .loop .inv .4 k t h e) (omega (arith, c .before .before .before .before .before .before .before .before .before .before .pre .1 .1)) _ (c .loop-test .left) d
 

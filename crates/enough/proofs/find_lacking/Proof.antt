@@ -12,43 +12,33 @@ use Rattle.middles.proofs.longest_middle.Reads as longest-middle-reads
 use Rattle.middles.proofs.middle.Reads as middle-reads
 use Rattle.middles.proofs.no_inputs.Reads as no-inputs-reads
 
--- src/lib.rt:118:53
 no-inputs-requires : tie.Need-no-inputs-requires
 no-inputs-requires c κs = search needs
 
--- src/lib.rt:118:9
 returns : tie.Need-returns
 returns c = let by-if1 = c .before in let start = by-if1 .before .before .before in none-tested _ _ (start .pre .0) (start .pre .1) (by-if1 .if1 .taken) _ (c .no-inputs .ensures)
 
--- src/lib.rt:120:9
 longest-middle-requires : tie.Need-longest-middle-requires
 longest-middle-requires c κs = let start = c .before .before .before in bound-near _ _ (start .pre .0)
 
--- src/lib.rt:121:9
 count-requires : tie.Need-count-requires
 count-requires c κs = let start = c .before .before .before .before in let sized = few-inputs _ _ (start .pre .0) in (sized .0, sized .1, c .longest-middle .ensures .1)
 
--- src/lib.rt:122:11
 find-lack-requires : tie.Need-find-lack-requires
 find-lack-requires c κs = let by-longest-middle = c .before in let by-if1 = by-longest-middle .before in let start = by-if1 .before .before .before in begun _ _ (start .pre .0) (start .pre .1) (by-if1 .if1 .left) _ (by-longest-middle .longest-middle .ensures .0) _ (c .count .ensures .0) (c .count .ensures .2)
 
--- src/lib.rt:123:26
 enum-told : tie.Need-enum-told
 enum-told c = search needs
 
--- src/lib.rt:124:18
 enum-known-c : tie.Need-enum-known-c
 enum-known-c c = search needs
 
--- src/lib.rt:125:17
 middle-requires : tie.Need-middle-requires
 middle-requires c κs = let by-c = c .before in let by-find-lack = by-c .before .before in let by-longest-middle = by-find-lack .before .before in let start = by-longest-middle .before .before .before .before in let sized = few-inputs _ _ (start .pre .0) in (sized .0, sized .1, by-longest-middle .longest-middle .ensures .1, lacking-inside _ _ _ (by-find-lack .find-lack .ensures) _ _ _ (by-c .c .given .1) _ (by-longest-middle .longest-middle .ensures .0))
 
--- src/lib.rt:112:1
 returns-2 : tie.Need-returns-2
 returns-2 c = let by-find-lack = c .before .before in none-lacking _ _ _ (by-find-lack .find-lack .ensures) (c .enum-told .given .1)
 
--- src/lib.rt:112:1
 returns-3 : tie.Need-returns-3
 returns-3 c = let by-c = c .before .before in let by-find-lack = by-c .before .before in let by-longest-middle = by-find-lack .before .before in some-lacking _ _ _ (by-find-lack .find-lack .ensures) _ _ _ (by-c .c .given .1) _ (by-longest-middle .longest-middle .ensures .0) _ (c .middle .ensures)
 

@@ -9,19 +9,15 @@ use Rattle.hegdorvin.proofs.hegdorvin_build.Lts as lts
 use Rattle.builder.proofs.build.Reads as build-reads
 use Rattle.hegdorvin.proofs.pack.built.Reads as built-reads
 
--- src/lib.rt:28:11
 build-requires : tie.Need-build-requires
 build-requires c κs = search needs
 
--- src/lib.rt:28:5
 built-requires : tie.Need-built-requires
 built-requires c κs = let by-build = c .before .before in build-fits _ _ (by-build .build .result) _ (by-build .build .ensures)
 
--- src/lib.rt:24:1
 same-length : tie.Need-same-length
 same-length c = search needs
 
--- src/lib.rt:24:1
 returns : tie.Need-returns
 returns c = let by-build = c .before .before .before in (c .built .ensures ∙ ap packed (by-build .build .ensures .0), by-build .build .ensures .1)
 

@@ -9,19 +9,15 @@ use Rattle.hegdorvin.proofs.hegdorvin_compare.Lts as lts
 use Rattle.comparer.proofs.compare.Reads as compare-reads
 use Rattle.hegdorvin.proofs.pack.compared.Reads as compared-reads
 
--- src/lib.rt:44:14
 compare-requires : tie.Need-compare-requires
 compare-requires c κs = search needs
 
--- src/lib.rt:44:5
 compared-requires : tie.Need-compared-requires
 compared-requires c κs = let by-compare = c .before .before in compare-fits _ _ _ (by-compare .compare .result) _ (by-compare .compare .ensures)
 
--- src/lib.rt:40:1
 same-length : tie.Need-same-length
 same-length c = search needs
 
--- src/lib.rt:40:1
 returns : tie.Need-returns
 returns c = let by-compare = c .before .before .before in (c .compared .ensures ∙ ap packed (by-compare .compare .ensures .0), by-compare .compare .ensures .1)
 

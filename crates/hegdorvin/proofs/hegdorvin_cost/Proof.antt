@@ -9,15 +9,12 @@ use Rattle.hegdorvin.proofs.hegdorvin_cost.Lts as lts
 use Rattle.hegdorvin.proofs.pack.costed.Reads as costed-reads
 use Rattle.runner.proofs.cost.Reads as cost-reads
 
--- src/lib.rt:42:12
 cost-requires : tie.Need-cost-requires
 cost-requires c κs = search needs
 
--- src/lib.rt:42:5
 costed-requires : tie.Need-costed-requires
 costed-requires c κs = cost-fits _ (c .cost .result) (c .cost .ensures)
 
--- src/lib.rt:38:1
 returns : tie.Need-returns
 returns c = let by-cost = c .before in c .costed .ensures ∙ ap packed (by-cost .cost .ensures)
 

@@ -9,15 +9,12 @@ use Rattle.hegdorvin.proofs.hegdorvin_judge.Lts as lts
 use Rattle.hegdorvin.proofs.pack.judged.Reads as judged-reads
 use Rattle.judge.proofs.judge.Reads as judge-reads
 
--- src/lib.rt:56:12
 judge-requires : tie.Need-judge-requires
 judge-requires c κs = search needs
 
--- src/lib.rt:56:5
 judged-requires : tie.Need-judged-requires
 judged-requires c κs = judge-fields-fit _ _ (c .judge .result) (c .judge .ensures)
 
--- src/lib.rt:52:1
 returns : tie.Need-returns
 returns c = let by-judge = c .before in c .judged .ensures ∙ ap packed (by-judge .judge .ensures)
 

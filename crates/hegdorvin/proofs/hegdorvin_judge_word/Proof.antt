@@ -11,15 +11,12 @@ use Rattle.hegdorvin.proofs.hegdorvin_judge_word.Lts as lts
 use Rattle.hegdorvin.proofs.pack.part.Reads as part-reads
 use Rattle.judge.proofs.failing_part.Reads as failing-part-reads
 
--- src/lib.rt:64:10
 failing-part-requires : tie.Need-failing-part-requires
 failing-part-requires c κs = search needs
 
--- src/lib.rt:64:5
 part-requires : tie.Need-part-requires
 part-requires c κs = let e = c .failing-part .ensures in rw (e .0, e .1) (judged-part-fits _ _)
 
--- src/lib.rt:60:1
 returns : tie.Need-returns
 returns c = let e = c .before .failing-part .ensures in c .part .ensures ∙ (λ i. packed (well (e .0 i ∷ e .1 i ∷ [])))
 

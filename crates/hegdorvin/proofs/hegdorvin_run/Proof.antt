@@ -9,15 +9,12 @@ use Rattle.hegdorvin.proofs.hegdorvin_run.Lts as lts
 use Rattle.hegdorvin.proofs.pack.ran.Reads as ran-reads
 use Rattle.runner.proofs.run.Reads as run-reads
 
--- src/lib.rt:35:9
 run-requires : tie.Need-run-requires
 run-requires c κs = search needs
 
--- src/lib.rt:35:5
 ran-requires : tie.Need-ran-requires
 ran-requires c κs = run-fits _ _ (c .run .result) (c .run .ensures)
 
--- src/lib.rt:31:1
 returns : tie.Need-returns
 returns c = let by-run = c .before in c .ran .ensures ∙ ap packed (by-run .run .ensures)
 

@@ -23,43 +23,33 @@ Inv-loop dossier place inputs count label first next value i₀ word₀ i word =
 abbrev μ-loop : tie.MeasureT-loop
 μ-loop dossier place inputs count label first next value i₀ word₀ i word = count - i
 
--- src/pairing.rt:64:5
 loop-holds : tie.Need-loop-holds Inv-loop μ-loop
 loop-holds c = (words-begin _ _ _ _ (c .before .before .before .before .before .pre .0), λ s k rs x. word-scan-begin _ _ _ _)
 
--- src/pairing.rt:65:12
 record-of-requires : tie.Need-record-of-requires Inv-loop μ-loop
 record-of-requires c κs = (word-whole _ _ _ _ _ _ (c .before .loop .inv .0) (c .loop-test .taken) .inside, c .before .before .before .before .before .before .before .pre .1)
 
--- src/pairing.rt:66:13
 returns : tie.Need-returns Inv-loop μ-loop
 returns c = λ s k rs x. absent-found _ _ _ _ _ _ rs (c .before .before .before .loop .inv .0) (c .before .before .loop-test .taken) (c .before .before .before .loop .inv .1 s k rs x) (record-none _ _ _ _ _ _ (c .before .record-of .ensures) s k rs x (c .if1 .taken))
 
--- src/pairing.rt:68:16
 add-word : tie.Need-add-word Inv-loop μ-loop
 add-word c = let h = word-whole _ _ _ _ _ _ (c .before .before .before .loop .inv .0) (c .before .before .loop-test .taken) .inside in omega arith
 
--- src/pairing.rt:68:27
 word-length-requires : tie.Need-word-length-requires Inv-loop μ-loop
 word-length-requires c κs = word-whole _ _ _ _ _ _ (c .before .before .before .loop .inv .0) (c .before .before .loop-test .taken) .inside
 
--- src/pairing.rt:68:16
 add-word-2 : tie.Need-add-word-2 Inv-loop μ-loop
 add-word-2 c = let h = word-whole _ _ _ _ _ _ (c .before .before .before .before .loop .inv .0) (c .before .before .before .loop-test .taken) .inside in omega (arith, c .word-length .ensures .1)
 
--- src/pairing.rt:69:9
 add-i : tie.Need-add-i Inv-loop μ-loop
 add-i c = search needs
 
--- src/pairing.rt:64:5
 loop-less : tie.Need-loop-less Inv-loop μ-loop
 loop-less c = search needs
 
--- src/pairing.rt:64:5
 loop-again : tie.Need-loop-again Inv-loop μ-loop
 loop-again c = (words-next _ _ _ _ _ _ (c .before .before .before .before .loop .inv .0) (c .before .before .before .loop-test .taken) _ (c .word-length .ensures .1), λ s k rs x. absent-next _ _ _ _ _ _ rs (c .before .before .before .before .loop .inv .0) (c .before .before .before .loop-test .taken) (c .before .before .before .before .loop .inv .1 s k rs x) (record-some _ _ _ _ _ _ (c .before .before .record-of .ensures) s k rs x (c .before .if1 .left)) _ (c .word-length .ensures .1))
 
--- src/pairing.rt:47:1
 returns-2 : tie.Need-returns-2 Inv-loop μ-loop
 returns-2 c = λ s k rs x. absent-end _ _ (c .before .before .before .before .before .before .before .args .inputs) _ _ _ rs (c .loop-test .left) (c .before .loop .inv .1 s k rs x)
 

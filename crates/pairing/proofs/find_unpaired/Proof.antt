@@ -11,27 +11,21 @@ use Rattle.pairing.proofs.foreign.mark_tests.Reads as mark-tests-reads
 use Rattle.pairing.proofs.find_absent.Reads as find-absent-reads
 use Rattle.pairing.proofs.first_refusal.Reads as first-refusal-reads
 
--- src/pairing.rt:106:5
 mark-tests-requires : tie.Need-mark-tests-requires
 mark-tests-requires c κs = let q = c .before .before .before .before .before .before .before .before .pre in (q .0 .0, (filed-node (q .1 .0), q .1 .1))
 
--- src/pairing.rt:107:9
 find-foreign-requires : tie.Need-find-foreign-requires
 find-foreign-requires c κs = let q = c .before .before .before .before .before .before .before .before .before .before .before .before .pre in (q .0 .1 .records, (filed-node (q .1 .0), c .before .before .before .mark-tests .kept .1 .1 .1 .1 .1 .1 .1 .0 ∙ q .1 .1))
 
--- src/pairing.rt:108:9
 find-absent-requires : tie.Need-find-absent-requires
 find-absent-requires c κs = let q = c .before .before .before .before .before .before .before .before .before .before .before .before .before .pre in (q .0 .0, (filed-node (q .1 .0), q .1 .0 .long))
 
--- src/pairing.rt:109:5
 first-refusal-requires : tie.Need-first-refusal-requires
 first-refusal-requires c κs = search needs
 
--- src/pairing.rt:89:1
 same-length : tie.Need-same-length
 same-length c = search needs
 
--- src/pairing.rt:89:1
 returns : tie.Need-returns
 returns c =
     let q = c .before .before .before .before .before .before .before .before .before .before .before .before .before .before .before .pre in

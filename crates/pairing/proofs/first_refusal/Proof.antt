@@ -4,31 +4,24 @@ use Rattle.pairing.proofs.first_refusal.Tie as tie
 use Rattle.pairing.proofs.first_refusal.Reads as reads
 use Rattle.pairing.proofs.first_refusal.Lts as lts
 
--- src/pairing.rt:80:19
 enum-known-foreign : tie.Need-enum-known-foreign
 enum-known-foreign c = search needs
 
--- src/pairing.rt:81:27
 enum-told : tie.Need-enum-told
 enum-told c = search needs
 
--- src/pairing.rt:82:23
 enum-known-absent : tie.Need-enum-known-absent
 enum-known-absent c = search needs
 
--- src/pairing.rt:83:31
 enum-told-2 : tie.Need-enum-told-2
 enum-told-2 c = search needs
 
--- src/pairing.rt:76:1
 returns : tie.Need-returns
 returns c = rw (c .before .foreign .given .1)
 
--- src/pairing.rt:76:1
 returns-2 : tie.Need-returns-2
 returns-2 c = rw (c .before .before .before .enum-told .given .1, c .before .absent .given .1)
 
--- src/pairing.rt:76:1
 returns-3 : tie.Need-returns-3
 returns-3 c = search needs
 

@@ -5,7 +5,6 @@ use Rattle.reach.proofs.blank.Tie as tie
 use Rattle.reach.proofs.blank.Reads as reads
 use Rattle.reach.proofs.blank.Lts as lts
 
--- src/lib.rt:21:1
 returns : tie.Need-returns
 unfolding unmarked
 returns c = refl

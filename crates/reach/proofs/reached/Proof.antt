@@ -21,47 +21,36 @@ Inv-loop bytes table inputs states cover covers marks₀ left₀ word₀ marks l
 abbrev μ-loop : tie.MeasureT-loop
 μ-loop bytes table inputs states cover covers marks₀ left₀ word₀ marks left word = left
 
--- src/lib.rt:59:21
 blank-requires : tie.Need-blank-requires Inv-loop μ-loop
 blank-requires c κs = search needs
 
--- src/lib.rt:62:5
 loop-holds : tie.Need-loop-holds Inv-loop μ-loop
 loop-holds c = (c .before .before .pre .1 .1, rw (c .blank .ensures) unmarked-length, marking-start _ _ _ _ _ _ _ (c .before .before .pre .1 .0) (c .blank .ensures))
 
--- src/lib.rt:63:13
 word-length-requires : tie.Need-word-length-requires Inv-loop μ-loop
 word-length-requires c κs = word-turn _ _ _ _ (c .loop-test .taken) (c .before .loop .inv .0) .here .inside
 
--- src/lib.rt:64:13
 reached-by-requires : tie.Need-reached-by-requires Inv-loop μ-loop
 reached-by-requires c κs = (c .before .before .before .before .before .pre .0, word-turn _ _ _ _ (c .before .loop-test .taken) (c .before .before .loop .inv .0) .here)
 
--- src/lib.rt:65:9
 array-write-marks : tie.Need-array-write-marks Inv-loop μ-loop
 array-write-marks c = omega (arith, c .reached-by .ensures .1, c .before .before .before .before .before .before .pre .1 .0, c .before .before .before .loop .inv .1)
 
--- src/lib.rt:66:16
 add-word : tie.Need-add-word Inv-loop μ-loop
 add-word c = let h = word-room _ _ _ _ _ (c .before .before .loop-test .taken) (c .before .before .before .loop .inv .0) (c .before .word-length .ensures .1) in omega arith
 
--- src/lib.rt:66:16
 add-word-2 : tie.Need-add-word-2 Inv-loop μ-loop
 add-word-2 c = let h = word-room _ _ _ _ _ (c .before .before .loop-test .taken) (c .before .before .before .loop .inv .0) (c .before .word-length .ensures .1) in omega arith
 
--- src/lib.rt:67:9
 sub-left : tie.Need-sub-left Inv-loop μ-loop
 sub-left c = search needs
 
--- src/lib.rt:62:5
 loop-less : tie.Need-loop-less Inv-loop μ-loop
 loop-less c = search needs
 
--- src/lib.rt:62:5
 loop-again : tie.Need-loop-again Inv-loop μ-loop
 loop-again c = let in-marks : c .reached-by .result < length (c .before .before .before .loop .marks) = omega (arith, c .reached-by .ensures .1, c .before .before .before .before .before .before .pre .1 .0, c .before .before .before .loop .inv .1) in (words-after _ _ _ _ _ (c .before .before .loop-test .taken) (c .before .before .before .loop .inv .0) (c .before .word-length .ensures .1), simp length-set (c .before .before .before .loop .inv .1), marking-next _ _ _ _ _ _ (c .before .before .before .loop .marks) _ _ _ _ (c .before .before .loop-test .taken) (c .before .before .before .loop .inv .0) (c .before .word-length .ensures .1) (c .reached-by .ensures .0) in-marks (c .before .before .before .loop .inv .2))
 
--- src/lib.rt:46:1
 returns : tie.Need-returns Inv-loop μ-loop
 returns c = marking-end _ _ _ _ _ _ (c .before .loop .marks) _ _ (c .loop-test .left) (c .before .loop .inv .2)
 

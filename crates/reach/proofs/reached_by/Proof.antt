@@ -9,23 +9,18 @@ use Rattle.rules.proofs.GoldenState.number.Reads as number-reads
 use Rattle.rules.proofs.GoldenState.numbered.Reads as numbered-reads
 use Rattle.walker.proofs.golden_after.Reads as golden-after-reads
 
--- src/lib.rt:39:9
 numbered-requires : tie.Need-numbered-requires
 numbered-requires c κs = search needs
 
--- src/lib.rt:34:9
 golden-after-requires : tie.Need-golden-after-requires
 golden-after-requires c κs = search needs
 
--- src/lib.rt:42:5
 number-requires : tie.Need-number-requires
 number-requires c κs = search needs
 
--- src/lib.rt:42:5
 cast-result : tie.Need-cast-result
 cast-result c = search needs
 
--- src/lib.rt:29:1
 returns : tie.Need-returns
 returns c = (c .number .ensures ∙ c .before .golden-after .ensures .0 ∙ rw (c .before .before .numbered .ensures), omega (arith, c .number .ensures, c .before .golden-after .ensures .1))
 

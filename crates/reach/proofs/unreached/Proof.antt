@@ -19,43 +19,33 @@ Inv-loop bytes table inputs states cover covers marks q₀ q = (q ≤ states) ×
 abbrev μ-loop : tie.MeasureT-loop
 μ-loop bytes table inputs states cover covers marks q₀ q = states - q
 
--- src/lib.rt:86:17
 reached-requires : tie.Need-reached-requires Inv-loop μ-loop
 reached-requires c κs = c .before .pre
 
--- src/lib.rt:88:5
 loop-holds : tie.Need-loop-holds Inv-loop μ-loop
 loop-holds c = let a = c .before .before .args in let G = machineAt (a .bytes .now) (a .table) (a .inputs) (a .states) in let ws = wordsAt (a .bytes .now) (a .cover) (a .covers) in (search needs, lowest-start (lacks G ws) (a .states))
 
--- src/lib.rt:89:26
 cast-mark : tie.Need-cast-mark Inv-loop μ-loop
 cast-mark c = search needs
 
--- src/lib.rt:89:20
 array-read-mark : tie.Need-array-read-mark Inv-loop μ-loop
 array-read-mark c = search needs
 
--- src/lib.rt:91:35
 numbered-requires : tie.Need-numbered-requires Inv-loop μ-loop
 numbered-requires c κs = search needs
 
--- src/lib.rt:91:13
 returns : tie.Need-returns Inv-loop μ-loop
 returns c = let a = c .before .before .before .before .before .before .args in let G = machineAt (a .bytes .now) (a .table) (a .inputs) (a .states) in let ws = wordsAt (a .bytes .now) (a .cover) (a .covers) in state-found _ (c .before .before .before .loop .q) _ (c .numbered .ensures) (c .before .before .before .loop .inv .1 ∙ lowest-here (lacks G ws) (a .states) (c .before .before .before .loop .q) (c .before .before .loop-test .taken) (unlit-lacks G ws (c .before .before .before .before .reached .result) (c .before .before .before .loop .q) (c .before .before .before .before .reached .ensures (c .before .before .before .loop .q) (c .before .before .loop-test .taken)) (c .before .if1 .taken)))
 
--- src/lib.rt:93:9
 add-q : tie.Need-add-q Inv-loop μ-loop
 add-q c = search needs
 
--- src/lib.rt:88:5
 loop-less : tie.Need-loop-less Inv-loop μ-loop
 loop-less c = search needs
 
--- src/lib.rt:88:5
 loop-again : tie.Need-loop-again Inv-loop μ-loop
 loop-again c = let a = c .before .before .before .before .before .args in let G = machineAt (a .bytes .now) (a .table) (a .inputs) (a .states) in let ws = wordsAt (a .bytes .now) (a .cover) (a .covers) in (search needs, c .before .before .loop .inv .1 ∙ lowest-next (lacks G ws) (a .states) (c .before .before .loop .q) (c .before .loop-test .taken) (lit-lacks G ws (c .before .before .before .reached .result) (c .before .before .loop .q) (c .before .before .before .reached .ensures (c .before .before .loop .q) (c .before .loop-test .taken)) (c .if1 .left)))
 
--- src/lib.rt:73:1
 returns-2 : tie.Need-returns-2 Inv-loop μ-loop
 returns-2 c = let a = c .before .before .before .before .args in let G = machineAt (a .bytes .now) (a .table) (a .inputs) (a .states) in let ws = wordsAt (a .bytes .now) (a .cover) (a .covers) in sym (ap stateFound (c .before .loop .inv .1 ∙ lowest-none (lacks G ws) (a .states) (c .before .loop .q) (c .loop-test .left)))
 

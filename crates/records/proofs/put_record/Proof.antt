@@ -10,89 +10,69 @@ use Rattle.filing.proofs.put_word.Reads as put-word-reads
 use Rattle.trie.proofs.note.Reads as note-reads
 use Rattle.trie.proofs.noted.Reads as noted-reads
 
--- src/records.rt:47:11
 put-word-requires : tie.Need-put-word-requires
 put-word-requires c κs = let q = c .before .before .before .before .before .before .before .before .pre in (q .0 .0, counted-root (q .1 .0))
 
--- src/records.rt:48:23
 enum-known-node : tie.Need-enum-known-node
 enum-known-node c = search needs
 
--- src/records.rt:49:16
 noted-requires : tie.Need-noted-requires
 noted-requires c κs =
     let q = c .before .before .before .before .before .before .before .before .before .before .before .before .before .before .before .before .before .before .before .pre in
     let done = c .before .before .before .before .before .before .before .before .before .before .put-word .ensures _ (q .1 .0 .holds) (q .1 .0 .counted) in
     omega (arith, insert-below _ _ _ _ _ _ _ _ (q .1 .0 .holds .proper) done (c .before .before .node .given .1) .0, c .before .before .before .before .before .before .before .before .before .before .put-word .kept .1 .1 .0, q .1 .1)
 
--- src/records.rt:50:17
 same-length : tie.Need-same-length
 same-length c = search needs
 
--- src/records.rt:50:17
 same-length-2 : tie.Need-same-length-2
 same-length-2 c = search needs
 
--- src/records.rt:50:17
 same-length-3 : tie.Need-same-length-3
 same-length-3 c = search needs
 
--- src/records.rt:50:17
 same-length-4 : tie.Need-same-length-4
 same-length-4 c = search needs
 
--- src/records.rt:50:17
 returns : tie.Need-returns
 returns c = λ t m h noted e. put-old t m _ _ _ _ _ _ _ _ _ h noted (c .before .before .before .before .before .before .before .before .before .before .before .before .put-word .ensures t h e) _ _ (c .before .before .before .before .node .given .1) _ (c .before .noted .ensures) (c .before .before .before .before .before .before .before .before .before .before .before .before .before .before .before .before .before .before .before .before .before .args .place) (c .if1 .taken)
 
--- src/records.rt:52:31
 cast-note : tie.Need-cast-note
 cast-note c = search needs
 
--- src/records.rt:52:13
 note-requires : tie.Need-note-requires
 note-requires c κs =
     let q = c .before .before .before .before .before .before .before .before .before .before .before .before .before .before .before .before .before .before .before .before .before .before .pre in
     let done = c .before .before .before .before .before .before .before .before .before .before .before .before .before .put-word .ensures _ (q .1 .0 .holds) (q .1 .0 .counted) in
     omega (arith, insert-below _ _ _ _ _ _ _ _ (q .1 .0 .holds .proper) done (c .before .before .before .before .before .node .given .1) .0, c .before .before .before .before .before .before .before .before .before .before .before .before .before .put-word .kept .1 .1 .0, q .1 .1)
 
--- src/records.rt:55:27
 enum-told : tie.Need-enum-told
 enum-told c = search needs
 
--- src/records.rt:33:1
 same-length-5 : tie.Need-same-length-5
 same-length-5 c = search needs
 
--- src/records.rt:33:1
 same-length-6 : tie.Need-same-length-6
 same-length-6 c = search needs
 
--- src/records.rt:33:1
 same-length-7 : tie.Need-same-length-7
 same-length-7 c = search needs
 
--- src/records.rt:33:1
 same-length-8 : tie.Need-same-length-8
 same-length-8 c = search needs
 
--- src/records.rt:33:1
 returns-2 : tie.Need-returns-2
 returns-2 c = λ t m h noted e. put-new t m _ _ _ _ _ _ _ _ _ h noted (c .before .before .before .before .before .before .before .before .before .before .before .before .before .before .before .before .put-word .ensures t h e) _ _ (c .before .before .before .before .before .before .before .before .node .given .1) _ (c .before .before .before .before .before .noted .ensures) _ _ (c .before .before .before .before .if1 .left) (c .before .before .note .ensures)
 
--- src/records.rt:33:1
 same-length-9 : tie.Need-same-length-9
 same-length-9 c = search needs
 
--- src/records.rt:33:1
 same-length-10 : tie.Need-same-length-10
 same-length-10 c = search needs
 
--- src/records.rt:33:1
 same-length-11 : tie.Need-same-length-11
 same-length-11 c = search needs
 
--- src/records.rt:33:1
 returns-3 : tie.Need-returns-3
 returns-3 c = λ t m h noted e. put-full t m _ _ _ _ _ _ _ _ _ h noted (c .before .before .before .before .before .before .before .before .put-word .ensures t h e) (c .before .before .before .before .before .before .before .before .before .before .before .before .before .before .before .before .before .args .place) (c .enum-told .given .1)
 

@@ -5,47 +5,36 @@ use borrow.Author.Needs.{needs}
 use Rattle.teller.proofs.put.Statement.{statement}
 use Rattle.teller.proofs.put.Tie as tie
 
--- src/lib.rt:48:8
 is-met-requires : tie.Need-is-met-requires
 is-met-requires c κs = search needs
 
--- src/lib.rt:49:9
 same-length : tie.Need-same-length
 same-length c = search needs
 
--- src/lib.rt:49:9
 returns : tie.Need-returns
 returns c = put-met _ _ _ _ _ _ (c .before .is-met .ensures) (c .if1 .taken)
 
--- src/lib.rt:51:5
 meet-requires : tie.Need-meet-requires
 meet-requires c κs = search needs
 
--- src/lib.rt:52:19
 entry-requires : tie.Need-entry-requires
 entry-requires c κs = search needs
 
--- src/lib.rt:52:5
 mul-queue : tie.Need-mul-queue
 mul-queue c = omega (arith, (c .before .before .before .before .before .before .before .before .before .before .pre .1 .1 (sym (c .before .before .before .before .before .before .is-met .ensures) ∙ c .before .before .before .before .before .if1 .left)))
 
--- src/lib.rt:52:5
 slice-write-queue : tie.Need-slice-write-queue
 slice-write-queue c = omega (arith, (c .before .before .before .before .before .before .before .before .before .before .pre .1 .1 (sym (c .before .before .before .before .before .before .is-met .ensures) ∙ c .before .before .before .before .before .if1 .left)), c .before .before .before .before .before .before .before .before .before .before .pre .0 .1)
 
--- src/lib.rt:53:5
 add-result : tie.Need-add-result
 add-result c = omega (arith, (c .before .before .before .before .before .before .before .before .before .before .pre .1 .1 (sym (c .before .before .before .before .before .before .is-met .ensures) ∙ c .before .before .before .before .before .if1 .left)))
 
--- src/lib.rt:35:1
 same-length-2 : tie.Need-same-length-2
 same-length-2 c = search needs
 
--- src/lib.rt:35:1
 same-length-3 : tie.Need-same-length-3
 same-length-3 c = search needs
 
--- src/lib.rt:35:1
 returns-2 : tie.Need-returns-2
 returns-2 c = put-new _ _ _ _ _ _ (c .before .before .before .before .before .before .is-met .ensures) (c .before .before .before .before .before .if1 .left) _ _ (c .before .before .before .meet .ensures) (c .entry .ensures)
 

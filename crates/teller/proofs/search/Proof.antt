@@ -19,67 +19,51 @@ Inv-loop dossier unit sides queue₀ marks₀ head₀ tail₀ queue marks head t
 abbrev μ-loop : tie.MeasureT-loop
 μ-loop dossier unit sides queue₀ marks₀ head₀ tail₀ queue marks head tail = pairs - head
 
--- src/lib.rt:116:21
 no-marks-requires : tie.Need-no-marks-requires Inv-loop μ-loop
 no-marks-requires c κs = tt
 
--- src/lib.rt:117:10
 slice-aggregate-meet : tie.Need-slice-aggregate-meet Inv-loop μ-loop
 slice-aggregate-meet c = sym (ap length (c .before .no-marks .ensures) ∙ table-start)
 
--- src/lib.rt:117:5
 meet-requires : tie.Need-meet-requires Inv-loop μ-loop
 meet-requires c κs = (ap length (c .before .no-marks .ensures) ∙ table-start, omega arith)
 
--- src/lib.rt:118:5
 slice-write-queue : tie.Need-slice-write-queue Inv-loop μ-loop
 slice-write-queue c = omega (arith, c .before .before .before .before .before .before .before .pre .1)
 
--- src/lib.rt:121:5
 loop-holds : tie.Need-loop-holds Inv-loop μ-loop
 loop-holds c = (searched-start (c .before .before .before .before .before .before .before .args .sides .inputs) (goldenAt (c .before .before .before .before .before .before .before .args .dossier .now) (c .before .before .before .before .before .before .before .args .sides)) (unitAt (c .before .before .before .before .before .before .before .args .unit .now) (c .before .before .before .before .before .before .before .args .sides)) (c .before .meet .last .0) (c .before .before .before .before .before .before .before .args .queue .now) (c .before .before .before .before .before .before .before .pre .1) (c .before .meet .ensures ∙ ap (λ l. withMark l 0) (c .before .before .before .no-marks .ensures)), omega arith, omega arith, refl)
 
--- src/lib.rt:122:47
 slice-aggregate-try-entry : tie.Need-slice-aggregate-try-entry Inv-loop μ-loop
 slice-aggregate-try-entry c = sym (c .before .before .loop .inv .0 .table)
 
--- src/lib.rt:122:15
 try-entry-requires : tie.Need-try-entry-requires Inv-loop μ-loop
 try-entry-requires c κs = let l = c .before .before .before .loop in (c .before .before .before .before .before .before .before .before .before .before .before .pre .0, (l .inv .0, (c .before .before .loop-test .taken, l .inv .2)))
 
--- src/lib.rt:123:28
 enum-known-input : tie.Need-enum-known-input Inv-loop μ-loop
 enum-known-input c = search needs
 
--- src/lib.rt:124:17
 same-length : tie.Need-same-length Inv-loop μ-loop
 same-length c = c .before .before .before .before .before .before .try-entry .kept .1 .1 .1 .1 .0 ∙ c .before .before .before .before .before .before .before .before .before .before .loop .inv .3 ∙ length-set (c .before .before .before .before .before .before .before .before .before .before .before .before .before .before .before .before .before .before .args .queue .now) 0 0
 
--- src/lib.rt:124:17
 returns : tie.Need-returns Inv-loop μ-loop
 returns c = progress-told (c .before .before .before .before .before .before .before .before .before .before .before .before .before .before .before .before .before .before .args .sides .inputs) (goldenAt (c .before .before .before .before .before .before .before .before .before .before .before .before .before .before .before .before .before .before .args .dossier .now) (c .before .before .before .before .before .before .before .before .before .before .before .before .before .before .before .before .before .before .args .sides)) (unitAt (c .before .before .before .before .before .before .before .before .before .before .before .before .before .before .before .before .before .before .args .unit .now) (c .before .before .before .before .before .before .before .before .before .before .before .before .before .before .before .before .before .before .args .sides)) (c .before .before .before .before .before .before .try-entry .last .1 .1 .1 .0) (c .before .before .before .before .before .before .try-entry .last .1 .1 .1 .1 .0) (c .before .before .before .before .before .before .before .before .before .before .loop .head) (stepOf (c .before .before .before .before .before .before .before .before .before .before .loop .head + 1) 0) (c .before .before .before .before .before .before .try-entry .result) (c .before .before .before .before .before .before .try-entry .ensures) _ (c .before .input .given .1)
 
--- src/lib.rt:126:28
 enum-known-end : tie.Need-enum-known-end Inv-loop μ-loop
 enum-known-end c = search needs
 
--- src/lib.rt:130:9
 add-head : tie.Need-add-head Inv-loop μ-loop
 add-head c = omega (arith, c .before .before .before .before .before .before .before .before .before .loop-test .taken, c .before .before .before .before .before .before .before .before .before .before .loop .inv .2)
 
--- src/lib.rt:121:5
 loop-less : tie.Need-loop-less Inv-loop μ-loop
 loop-less c = omega (arith, c .before .before .before .before .before .before .before .before .before .loop-test .taken, c .before .before .before .before .before .before .before .before .before .before .loop .inv .2)
 
--- src/lib.rt:121:5
 loop-again : tie.Need-loop-again Inv-loop μ-loop
 loop-again c = let p = progress-upto (c .before .before .before .before .before .before .before .before .before .before .before .before .before .before .before .before .before .before .args .sides .inputs) (goldenAt (c .before .before .before .before .before .before .before .before .before .before .before .before .before .before .before .before .before .before .args .dossier .now) (c .before .before .before .before .before .before .before .before .before .before .before .before .before .before .before .before .before .before .args .sides)) (unitAt (c .before .before .before .before .before .before .before .before .before .before .before .before .before .before .before .before .before .before .args .unit .now) (c .before .before .before .before .before .before .before .before .before .before .before .before .before .before .before .before .before .before .args .sides)) (c .before .before .before .before .before .before .try-entry .last .1 .1 .1 .0) (c .before .before .before .before .before .before .try-entry .last .1 .1 .1 .1 .0) (c .before .before .before .before .before .before .before .before .before .before .loop .head) (stepOf (c .before .before .before .before .before .before .before .before .before .before .loop .head + 1) 0) (c .before .before .before .before .before .before .try-entry .result) (c .before .before .before .before .before .before .try-entry .ensures) _ (c .before .end .given .1) in (p .0, omega (arith, p .1), p .2, c .before .before .before .before .before .before .try-entry .kept .1 .1 .1 .1 .0 ∙ c .before .before .before .before .before .before .before .before .before .before .loop .inv .3)
 
--- src/lib.rt:111:1
 same-length-2 : tie.Need-same-length-2 Inv-loop μ-loop
 same-length-2 c = c .before .loop .inv .3 ∙ length-set (c .before .before .before .before .before .before .before .before .before .args .queue .now) 0 0
 
--- src/lib.rt:111:1
 returns-2 : tie.Need-returns-2 Inv-loop μ-loop
 returns-2 c = let a = c .before .before .before .before .before .before .before .before .before .args in let l = c .before .loop in all-tried (a .dossier .now) (a .unit .now) (a .sides) (c .before .before .before .before .before .before .before .before .before .pre .0) (l .marks) (l .queue) (l .head) (l .tail) (c .loop-test .left) (l .inv .0)
 

@@ -3,43 +3,33 @@ use borrow.Author.Needs.{needs}
 use Rattle.teller.proofs.try_input.Statement.{statement}
 use Rattle.teller.proofs.try_input.Tie as tie
 
--- src/lib.rt:72:38
 pair-at-requires : tie.Need-pair-at-requires
 pair-at-requires c κs = search needs
 
--- src/lib.rt:72:11
 look-requires : tie.Need-look-requires
 look-requires c κs = let e = c .pair-at .ensures in (c .before .before .before .before .before .before .pre .0, (e .1, (let a = c .before .before .before .before .before .before .args in let h = c .before .before .before .before .before .before .pre in try-pair (a .dossier .now) (a .unit .now) (a .sides) (h .0) (a .marks .now) (a .queue .now) (a .head) (a .input .0) (a .tail) (h .1 .0) (h .1 .1 .0) (h .1 .1 .1) (h .1 .1 .2) _ (e .0)), c .before .before .before .before .before .before .pre .1 .1 .2))
 
--- src/lib.rt:73:24
 enum-told : tie.Need-enum-told
 enum-told c = search needs
 
--- src/lib.rt:74:20
 enum-known-pair : tie.Need-enum-known-pair
 enum-known-pair c = search needs
 
--- src/lib.rt:74:44
 put-requires : tie.Need-put-requires
 put-requires c κs = let a = c .before .before .before .before .before .before .before .before .before .before .before .before .args in let h = c .before .before .before .before .before .before .before .before .before .before .before .before .pre in try-room (a .dossier .now) (a .unit .now) (a .sides) (h .0) (a .marks .now) (a .queue .now) (a .head) (a .input .0) (a .tail) (h .1 .0) (h .1 .1 .0) (h .1 .1 .1) (h .1 .1 .2) _ (c .before .before .before .before .before .before .pair-at .ensures .0) _ (c .before .before .before .before .before .look .ensures) _ (c .before .before .before .pair .given .1)
 
--- src/lib.rt:57:1
 same-length : tie.Need-same-length
 same-length c = search needs
 
--- src/lib.rt:57:1
 returns : tie.Need-returns
 returns c = let a = c .before .before .before .before .before .before .before .before .before .args in let h = c .before .before .before .before .before .before .before .before .before .pre in try-tells (a .dossier .now) (a .unit .now) (a .sides) (h .0) (a .marks .now) (a .queue .now) (a .head) (a .input .0) (a .tail) (h .1 .0) (h .1 .1 .0) (h .1 .1 .1) (h .1 .1 .2) _ (c .before .before .before .pair-at .ensures .0) _ (c .before .before .look .ensures) (c .enum-told .given .1)
 
--- src/lib.rt:57:1
 same-length-2 : tie.Need-same-length-2
 same-length-2 c = search needs
 
--- src/lib.rt:57:1
 same-length-3 : tie.Need-same-length-3
 same-length-3 c = search needs
 
--- src/lib.rt:57:1
 returns-2 : tie.Need-returns-2
 returns-2 c = let a = c .before .before .before .before .before .before .before .before .before .before .before .before .before .before .before .before .before .args in let h = c .before .before .before .before .before .before .before .before .before .before .before .before .before .before .before .before .before .pre in try-put (a .dossier .now) (a .unit .now) (a .sides) (h .0) (a .marks .now) (a .queue .now) (a .head) (a .input .0) (a .tail) (h .1 .0) (h .1 .1 .0) (h .1 .1 .1) (h .1 .1 .2) _ (c .before .before .before .before .before .before .before .before .before .before .before .pair-at .ensures .0) _ (c .before .before .before .before .before .before .before .before .before .before .look .ensures) _ (c .before .before .before .before .before .before .before .before .pair .given .1) _ _ _ (c .before .before .before .before .put .ensures)
 

@@ -16,50 +16,39 @@ Inv-loop dossier x unit y count place₀ word₀ place word = TestsLeft dossier 
 abbrev μ-loop : tie.MeasureT-loop
 μ-loop dossier x unit y count place₀ word₀ place word = count - place
 
--- src/lib.rt:27:5
 loop-holds : tie.Need-loop-holds Inv-loop μ-loop
 loop-holds c = tests-start _ _ _ _ (c .before .before .pre)
 
--- src/lib.rt:28:15
 unit-difference-requires : tie.Need-unit-difference-requires Inv-loop μ-loop
 unit-difference-requires c κs = let tables = test-tables _ _ _ _ _ _ (c .before .loop .inv) (omega (arith, c .loop-test .taken)) in (tables .0, (test-here _ _ _ _ _ _ (c .before .loop .inv) (omega (arith, c .loop-test .taken)), tables .1))
 
--- src/lib.rt:38:28
 enum-known-step : tie.Need-enum-known-step Inv-loop μ-loop
 enum-known-step c = search needs
 
--- src/lib.rt:39:17
 returns : tie.Need-returns Inv-loop μ-loop
 returns c = test-fails _ _ _ _ _ _ (c .before .before .before .before .before .loop .inv) (omega (arith, c .before .before .before .before .loop-test .taken)) _ (c .before .before .before .unit-difference .ensures) _ (c .before .step .given .1)
 
 enum-told : tie.Need-enum-told Inv-loop μ-loop
 enum-told c = search needs
 
--- src/lib.rt:43:16
 add-word : tie.Need-add-word Inv-loop μ-loop
 add-word c = let here = test-here _ _ _ _ _ _ (c .before .before .before .before .loop .inv) (omega (arith, c .before .before .before .loop-test .taken)) in omega (arith, here .inside)
 
--- src/lib.rt:43:27
 word-length-requires : tie.Need-word-length-requires Inv-loop μ-loop
 word-length-requires c κs = test-here _ _ _ _ _ _ (c .before .before .before .before .loop .inv) (omega (arith, c .before .before .before .loop-test .taken)) .inside
 
--- src/lib.rt:43:16
 add-word-2 : tie.Need-add-word-2 Inv-loop μ-loop
 add-word-2 c = let here = test-here _ _ _ _ _ _ (c .before .before .before .before .before .loop .inv) (omega (arith, c .before .before .before .before .loop-test .taken)) in omega (arith, here .inside, c .word-length .ensures .1)
 
--- src/lib.rt:44:9
 add-place : tie.Need-add-place Inv-loop μ-loop
 add-place c = omega (arith, c .before .before .before .before .loop-test .taken)
 
--- src/lib.rt:27:5
 loop-less : tie.Need-loop-less Inv-loop μ-loop
 loop-less c = omega (arith, c .before .before .before .before .loop-test .taken)
 
--- src/lib.rt:27:5
 loop-again : tie.Need-loop-again Inv-loop μ-loop
 loop-again c = test-passes _ _ _ _ _ _ (c .before .before .before .before .before .loop .inv) (omega (arith, c .before .before .before .before .loop-test .taken)) _ (c .before .before .before .unit-difference .ensures) _ (c .before .enum-told .given .1) (c .word-length .ensures .1)
 
--- src/lib.rt:20:1
 returns-2 : tie.Need-returns-2 Inv-loop μ-loop
 returns-2 c = tests-end _ _ _ _ _ _ (c .before .loop .inv) (omega (arith, c .loop-test .left))
 

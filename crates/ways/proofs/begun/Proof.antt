@@ -9,23 +9,18 @@ use Rattle.ways.proofs.begun.Reads as reads
 use Rattle.ways.proofs.begun.Lts as lts
 use Rattle.filing.proofs.walk_word.Reads as walk-word-reads
 
--- src/lib.rt:117:11
 walk-word-requires : tie.Need-walk-word-requires
 walk-word-requires c κs = search needs
 
--- src/lib.rt:118:26
 enum-told : tie.Need-enum-told
 enum-told c = search needs
 
--- src/lib.rt:119:24
 enum-told-2 : tie.Need-enum-told-2
 enum-told-2 c = search needs
 
--- src/lib.rt:112:1
 returns : tie.Need-returns
 returns c = λ tests some h less. tests-at tests some _ _ _ _ less (c .before .before .walk-word .ensures (holding tests) h less) (c .enum-told .given .1)
 
--- src/lib.rt:112:1
 returns-2 : tie.Need-returns-2
 returns-2 c = λ tests some h less. tests-off tests some _ _ _ less (c .before .before .walk-word .ensures (holding tests) h less) (c .enum-told2 .given .1)
 

@@ -11,51 +11,39 @@ use Rattle.ways.proofs.walk_middle.Lts as lts
 use Rattle.ways.proofs.wide.Reads as wide-reads
 use Rattle.trie.proofs.child.Reads as child-reads
 
--- src/lib.rt:43:9
 returns : tie.Need-returns
 returns c = λ t longest h below less kept. walk-first t _ _ longest _ (c .before .before .before .before .before .args .nodes .now) (c .if1 .taken)
 
--- src/lib.rt:46:26
 sub-wide : tie.Need-sub-wide
 sub-wide c = search needs
 
--- src/lib.rt:46:25
 div-wide : tie.Need-div-wide
 div-wide c = let g = c .before .before .before .before .before .pre in let pos = some-inputs _ _ (c .if1 .left) _ (g .less) in omega (arith, pos)
 
--- src/lib.rt:46:19
 mul-wide : tie.Need-mul-wide
 mul-wide c = let g = c .before .before .before .before .before .pre in let start = c .before .before .before .before .before in let inside = parent-kept (g .trie) (start .args .from) _ (g .longest) _ (start .args .nodes .now) (c .if1 .left) (g .less) (g .few) (g .short) (g .places) in omega (arith, inside, g .places)
 
--- src/lib.rt:46:19
 shared-slice-read-wide : tie.Need-shared-slice-read-wide
 shared-slice-read-wide c = let g = c .before .before .before .before .before .before .pre in let start = c .before .before .before .before .before .before in let inside = parent-kept (g .trie) (start .args .from) _ (g .longest) _ (start .args .nodes .now) (c .before .if1 .left) (g .less) (g .few) (g .short) (g .places) in inside
 
--- src/lib.rt:46:9
 wide-requires : tie.Need-wide-requires
 wide-requires c κs = search needs
 
--- src/lib.rt:47:14
 sub-i : tie.Need-sub-i
 sub-i c = search needs
 
--- src/lib.rt:47:13
 rem-i : tie.Need-rem-i
 rem-i c = let g = c .before .before .before .before .before .before .before .pre in let pos = some-inputs _ _ (c .before .before .if1 .left) _ (g .less) in omega (arith, pos)
 
--- src/lib.rt:48:44
 cast-child : tie.Need-cast-child
 cast-child c = let g = c .before .before .before .before .before .before .before .pre in let pos = some-inputs _ _ (c .before .before .if1 .left) _ (g .less) in omega (arith, mod-lt (c .before .before .before .before .before .before .before .args .y - 1) pos, g .few)
 
--- src/lib.rt:48:9
 child-requires : tie.Need-child-requires
 child-requires c κs = let g = c .before .before .before .before .before .before .before .pre in let start = c .before .before .before .before .before .before .before in let inside = parent-kept (g .trie) (start .args .from) _ (g .longest) _ (start .args .nodes .now) (c .before .before .if1 .left) (g .less) (g .few) (g .short) (g .places) in record { trie = g .trie; holds = g .holds; below = rw (c .wide .ensures) (parent-below (g .trie) _ _ (g .longest) _ (start .args .nodes .now) (c .before .before .if1 .left) (g .less) (g .kept) inside (g .holds .proper) (g .below)) }
 
--- src/lib.rt:50:9
 returns-2 : tie.Need-returns-2
 returns-2 c = λ t longest h below less kept. let g = c .before .before .before .before .before .before .before .before .before .pre in let start = c .before .before .before .before .before .before .before .before .before in let inside = parent-kept (g .trie) (start .args .from) _ (g .longest) _ (start .args .nodes .now) (c .before .before .before .before .if1 .left) (g .less) (g .few) (g .short) (g .places) in step-none t _ _ longest _ (start .args .nodes .now) (c .before .before .before .before .if1 .left) less kept inside _ _ (c .before .before .wide .ensures) (c .before .child .ensures t h (rw (c .before .before .wide .ensures) (parent-below t _ _ longest _ (start .args .nodes .now) (c .before .before .before .before .if1 .left) less kept inside (h .proper) below))) (c .if2 .taken)
 
--- src/lib.rt:30:1
 returns-3 : tie.Need-returns-3
 returns-3 c = λ t longest h below less kept. let g = c .before .before .before .before .before .before .before .before .before .pre in let start = c .before .before .before .before .before .before .before .before .before in let inside = parent-kept (g .trie) (start .args .from) _ (g .longest) _ (start .args .nodes .now) (c .before .before .before .before .if1 .left) (g .less) (g .few) (g .short) (g .places) in step-some t _ _ longest _ (start .args .nodes .now) (c .before .before .before .before .if1 .left) less kept inside _ _ (c .before .before .wide .ensures) (c .before .child .ensures t h (rw (c .before .before .wide .ensures) (parent-below t _ _ longest _ (start .args .nodes .now) (c .before .before .before .before .if1 .left) less kept inside (h .proper) below))) (c .if2 .left)
 

@@ -12,33 +12,26 @@ use Rattle.ways.proofs.way_of_cover.Lts as lts
 use Rattle.filing.proofs.walk_word.Reads as walk-word-reads
 use Rattle.trie.proofs.is_marked.Reads as is-marked-reads
 
--- src/lib.rt:75:11
 walk-word-requires : tie.Need-walk-word-requires
 walk-word-requires c κs = search needs
 
--- src/lib.rt:76:20
 enum-known-node : tie.Need-enum-known-node
 enum-known-node c = search needs
 
--- src/lib.rt:77:16
 is-marked-requires : tie.Need-is-marked-requires
 is-marked-requires c κs = let n = c .before .before .before .before .before .before .before .before .before .pre .1 .0 in
     let (less, word) = root-to (n .holds .proper) _ _ _ (c .before .before .before .walk-word .ensures (n .trie) (n .holds) (n .below)) (c .before .node .given .1) in
     omega (arith, c .before .before .before .before .before .before .before .before .before .pre .1 .1, n .holds .room)
 
--- src/lib.rt:78:17
 returns : tie.Need-returns
 returns c = λ t h. root-known (h .proper) _ _ _ (c .before .before .before .before .before .walk-word .ensures t h (size-pos t)) (c .before .before .before .node .given .1) _ _ (c .before .is-marked .ensures) (c .if1 .taken)
 
--- src/lib.rt:82:24
 enum-told : tie.Need-enum-told
 enum-told c = search needs
 
--- src/lib.rt:62:1
 returns-2 : tie.Need-returns-2
 returns-2 c = λ t h. root-to (h .proper) _ _ _ (c .before .before .before .before .before .walk-word .ensures t h (size-pos t)) (c .before .before .before .node .given .1)
 
--- src/lib.rt:62:1
 returns-3 : tie.Need-returns-3
 returns-3 c = λ t h. sym (c .before .before .walk-word .ensures t h (size-pos t)) ∙ c .enum-told .given .1
 

@@ -7,39 +7,30 @@ use Rattle.checker.proofs.answer.accept.Lts as lts
 use Rattle.enough.proofs.find_lacking.Reads as find-lacking-reads
 use Rattle.soundness.proofs.read_sound.Reads as read-sound-reads
 
--- src/answer.rt:16:11
 read-sound-requires : tie.Need-read-sound-requires
 read-sound-requires c κs = search needs
 
--- src/answer.rt:17:28
 enum-known-x : tie.Need-enum-known-x
 enum-known-x c = search needs
 
--- src/answer.rt:17:40
 find-lacking-requires : tie.Need-find-lacking-requires
 find-lacking-requires c κs = sound-lent _ _ (c .before .before .before .read-sound .ensures) _ (c .before .x .given .1)
 
--- src/answer.rt:18:30
 enum-told : tie.Need-enum-told
 enum-told c = search needs
 
--- src/answer.rt:19:30
 enum-known-r : tie.Need-enum-known-r
 enum-known-r c = search needs
 
--- src/answer.rt:21:30
 enum-known-r-2 : tie.Need-enum-known-r-2
 enum-known-r-2 c = search needs
 
--- src/answer.rt:13:1
 returns : tie.Need-returns
 returns c = check-held _ _ (c .before .before .before .before .before .before .read-sound .ensures) _ (c .before .before .before .before .x .given .1) _ (c .before .before .find-lacking .ensures) (c .enum-told .given .1)
 
--- src/answer.rt:13:1
 returns-2 : tie.Need-returns-2
 returns-2 c = check-found _ _ (c .before .before .before .before .before .before .before .read-sound .ensures) _ (c .before .before .before .before .before .x .given .1) _ (c .before .before .before .find-lacking .ensures) _ (c .before .r .given .1)
 
--- src/answer.rt:13:1
 returns-3 : tie.Need-returns-3
 returns-3 c = check-refused _ _ (c .before .before .before .read-sound .ensures) _ (c .before .r2 .given .1)
 

@@ -6,23 +6,18 @@ use Rattle.checker.proofs.answer.check.Reads as reads
 use Rattle.checker.proofs.answer.check.Lts as lts
 use Rattle.checker.proofs.answer.accept.Reads as accept-reads
 
--- src/answer.rt:28:11
 accept-requires : tie.Need-accept-requires
 accept-requires c κs = search needs
 
--- src/answer.rt:29:34
 enum-told : tie.Need-enum-told
 enum-told c = search needs
 
--- src/answer.rt:30:30
 enum-known-r : tie.Need-enum-known-r
 enum-known-r c = search needs
 
--- src/answer.rt:25:1
 returns : tie.Need-returns
 returns c = says-accepted _ _ (c .before .before .accept .ensures) _ (c .enum-told .given .1)
 
--- src/answer.rt:25:1
 returns-2 : tie.Need-returns-2
 returns-2 c = says-refused _ _ (c .before .before .before .accept .ensures) _ (c .before .r .given .1)
 

@@ -3,47 +3,36 @@ use borrow.Author.Needs.{needs}
 use Rattle.comparer.proofs.answer.compare.Statement.{statement}
 use Rattle.comparer.proofs.answer.compare.Tie as tie
 
--- src/answer.rt:59:11
 read-dossier-requires : tie.Need-read-dossier-requires
 read-dossier-requires c κs = search needs
 
--- src/answer.rt:60:28
 enum-known-x : tie.Need-enum-known-x
 enum-known-x c = search needs
 
--- src/answer.rt:60:40
 read-unit-requires : tie.Need-read-unit-requires
 read-unit-requires c κs = search needs
 
--- src/answer.rt:61:29
 enum-known-y : tie.Need-enum-known-y
 enum-known-y c = search needs
 
--- src/answer.rt:61:35
 compare-read-requires : tie.Need-compare-read-requires
 compare-read-requires c κs = both-stand (c .before .before .before .before .before .before .before .before .before .before .before .before .args .dossier .now) (c .before .before .before .before .before .before .before .before .before .before .before .before .args .unit .now) (c .before .before .before .before .before .before .before .before .read-dossier .result) (c .before .before .before .before .before .before .before .before .read-dossier .ensures) _ (c .before .before .before .before .before .before .x .given .1) (c .before .before .before .before .read-unit .result) (c .before .before .before .before .read-unit .ensures) _ (c .before .before .y .given .1)
 
--- src/answer.rt:62:31
 enum-known-r : tie.Need-enum-known-r
 enum-known-r c = search needs
 
--- src/answer.rt:64:30
 enum-known-r-2 : tie.Need-enum-known-r-2
 enum-known-r-2 c = search needs
 
--- src/answer.rt:56:1
 same-length : tie.Need-same-length
 same-length c = search needs
 
--- src/answer.rt:56:1
 returns : tie.Need-returns
 returns c = search needs
 
--- src/answer.rt:56:1
 returns-2 : tie.Need-returns-2
 returns-2 c = malformed-unit (c .before .before .before .before .before .before .before .before .before .before .before .args .dossier .now) (c .before .before .before .before .before .before .before .before .before .before .before .args .unit .now) (c .before .before .before .before .before .before .before .read-dossier .result) (c .before .before .before .before .before .before .before .read-dossier .ensures) _ (c .before .before .before .before .before .x .given .1) (c .before .before .before .read-unit .result) (c .before .before .before .read-unit .ensures) (c .before .before .before .before .before .before .before .before .before .before .before .args .out .now) _ (c .before .r .given .1)
 
--- src/answer.rt:56:1
 returns-3 : tie.Need-returns-3
 returns-3 c = malformed (c .before .before .before .before .before .before .before .args .dossier .now) (c .before .before .before .before .before .before .before .args .unit .now) (c .before .before .before .read-dossier .result) (c .before .before .before .read-dossier .ensures) (c .before .before .before .before .before .before .before .args .out .now) _ (c .before .r2 .given .1)
 

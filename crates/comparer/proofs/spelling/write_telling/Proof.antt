@@ -7,35 +7,27 @@ use borrow.Author.Needs.{needs}
 use Rattle.comparer.proofs.spelling.write_telling.Statement.{statement}
 use Rattle.comparer.proofs.spelling.write_telling.Tie as tie
 
--- src/spelling.rt:51:9
 word-length-requires : tie.Need-word-length-requires
 word-length-requires c κs = search needs
 
--- src/spelling.rt:52:15
 add-len : tie.Need-add-len
 add-len c = search needs
 
--- src/spelling.rt:54:9
 returns : tie.Need-returns
 returns c = let a = c .before .before .before .before .args in answers-no-room (wordTo (a .queue .now) (a .place)) (a .input .0) (c .before .word-length .result) (a .out .now) (c .before .word-length .ensures .0) (c .if1 .taken)
 
--- src/spelling.rt:56:19
 number-requires : tie.Need-number-requires
 number-requires c κs = search needs
 
--- src/spelling.rt:56:5
 slice-write-out : tie.Need-slice-write-out
 slice-write-out c = search needs
 
--- src/spelling.rt:57:5
 write-word-requires : tie.Need-write-word-requires
 write-word-requires c κs = (c .before .before .before .before .before .before .pre, (c .before .before .before .word-length .ensures .0, simp length-set (omega (arith, c .before .before .if1 .left))))
 
--- src/spelling.rt:47:1
 same-length : tie.Need-same-length
 same-length c = c .before .before .write-word .kept .1 .1 .1 .0 ∙ length-set (c .before .before .before .before .before .before .before .before .before .args .out .now) (c .before .before .before .before .before .before .word-length .result) (c .before .before .before .before .number .result)
 
--- src/spelling.rt:47:1
 returns-2 : tie.Need-returns-2
 returns-2 c = let a = c .before .before .before .before .before .before .before .before .before .args in answers-written (wordTo (a .queue .now) (a .place)) (a .input .0) (c .before .before .before .before .before .before .word-length .result) (a .out .now) (c .before .before .before .before .before .before .word-length .ensures .0) _ _ (c .before .before .before .before .number .ensures) (omega (arith, c .before .before .before .before .before .if1 .left)) (c .before .before .write-word .ensures)
 

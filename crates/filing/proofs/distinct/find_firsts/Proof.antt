@@ -21,24 +21,20 @@ abbrev μ-loop : tie.MeasureT-loop
 μ-loop bytes place inputs count label first next marks₀ numbers₀ places₀ n₀ i₀ word₀ marks numbers places n i word =
     count - i
 
--- src/distinct.rt:87:5
 clear-marks-requires : tie.Need-clear-marks-requires Inv-loop μ-loop
 clear-marks-requires c κs = tt
 
--- src/distinct.rt:91:5
 loop-holds : tie.Need-loop-holds Inv-loop μ-loop
 loop-holds c =
     let a = c .before .before .before .before .before .before .before .before .before .before .before .args in
     (sifting-begin (a .bytes .now) (a .place) (a .inputs) (a .count) (a .numbers .now) (a .places .now) _ (c .before .before .before .before .before .before .before .before .before .before .before .pre .0) (c .before .before .clear-marks .ensures _), refl, refl, refl)
 
--- src/distinct.rt:92:13
 seen-before-requires : tie.Need-seen-before-requires Inv-loop μ-loop
 seen-before-requires c κs =
     let a = c .before .before .before .before .before .before .before .before .before .before .before .before .before .before .args in
     let l = c .before .before .loop in
     (sifting-inside (a .bytes .now) (a .place) (a .inputs) (a .count) (l .i) (l .word) (l .n) (l .numbers) (l .places) (l .marks) (l .inv .0) (c .before .loop-test .taken), (record { trie = _; holds = c .before .before .before .before .before .before .before .before .before .before .before .before .before .before .pre .1 .1 .0; below = size-pos _ }, l .inv .1 ∙ c .before .before .before .before .before .clear-marks .kept .0 ∙ c .before .before .before .before .before .before .before .before .before .before .before .before .before .before .pre .1 .1 .1 .0))
 
--- src/distinct.rt:93:9
 store-first-requires : tie.Need-store-first-requires Inv-loop μ-loop
 store-first-requires c κs =
     let a = c .before .before .before .before .before .before .before .before .before .before .before .before .before .before .before .before .before .before .before .args in
@@ -46,7 +42,6 @@ store-first-requires c κs =
     let h = sifting-room (a .bytes .now) (a .place) (a .inputs) (a .count) (l .i) (l .word) (l .n) (l .numbers) (l .places) (l .marks) (l .inv .0) (c .before .before .before .before .before .before .loop-test .taken) (omega (arith, c .before .before .before .before .before .before .before .before .before .before .before .before .before .before .before .before .before .before .before .pre .1 .1 .1 .1 .0, l .inv .2)) (omega (arith, c .before .before .before .before .before .before .before .before .before .before .before .before .before .before .before .before .before .before .before .pre .1 .1 .1 .1 .1, l .inv .3)) (c .before .before .before .before .before .before .before .before .before .before .before .before .before .before .before .before .before .before .before .pre .1 .0) (c .before .before .before .before .before .before .before .before .before .before .before .before .before .before .before .before .before .before .before .pre .0) in
     ((h .0, h .1), (h .2, h .3))
 
--- src/distinct.rt:94:16
 add-word : tie.Need-add-word Inv-loop μ-loop
 add-word c =
     let a = c .before .before .before .before .before .before .before .before .before .before .before .before .before .before .before .before .before .before .before .before .before .before .before .before .args in
@@ -54,14 +49,12 @@ add-word c =
     let h = sifting-inside (a .bytes .now) (a .place) (a .inputs) (a .count) (l .i) (l .word) (l .n) (l .numbers) (l .places) (l .marks) (l .inv .0) (c .before .before .before .before .before .before .before .before .before .before .before .loop-test .taken) in
     omega (arith, h, c .before .before .before .before .before .before .before .before .before .before .before .before .before .before .before .before .before .before .before .before .before .before .before .before .pre .1 .0)
 
--- src/distinct.rt:94:27
 word-length-requires : tie.Need-word-length-requires Inv-loop μ-loop
 word-length-requires c κs =
     let a = c .before .before .before .before .before .before .before .before .before .before .before .before .before .before .before .before .before .before .before .before .before .before .before .before .args in
     let l = c .before .before .before .before .before .before .before .before .before .before .before .before .loop in
     sifting-inside (a .bytes .now) (a .place) (a .inputs) (a .count) (l .i) (l .word) (l .n) (l .numbers) (l .places) (l .marks) (l .inv .0) (c .before .before .before .before .before .before .before .before .before .before .before .loop-test .taken)
 
--- src/distinct.rt:94:16
 add-word-2 : tie.Need-add-word-2 Inv-loop μ-loop
 add-word-2 c =
     let a = c .before .before .before .before .before .before .before .before .before .before .before .before .before .before .before .before .before .before .before .before .before .before .before .before .before .args in
@@ -69,7 +62,6 @@ add-word-2 c =
     let h = sifting-inside (a .bytes .now) (a .place) (a .inputs) (a .count) (l .i) (l .word) (l .n) (l .numbers) (l .places) (l .marks) (l .inv .0) (c .before .before .before .before .before .before .before .before .before .before .before .before .loop-test .taken) in
     omega (arith, h, c .before .before .before .before .before .before .before .before .before .before .before .before .before .before .before .before .before .before .before .before .before .before .before .before .before .pre .1 .0, c .word-length .ensures .1)
 
--- src/distinct.rt:95:9
 add-i : tie.Need-add-i Inv-loop μ-loop
 add-i c =
     let a = c .before .before .before .before .before .before .before .before .before .before .before .before .before .before .before .before .before .before .before .before .before .before .before .before .before .args in
@@ -77,30 +69,24 @@ add-i c =
     let h = sifting-room (a .bytes .now) (a .place) (a .inputs) (a .count) (l .i) (l .word) (l .n) (l .numbers) (l .places) (l .marks) (l .inv .0) (c .before .before .before .before .before .before .before .before .before .before .before .before .loop-test .taken) (omega (arith, c .before .before .before .before .before .before .before .before .before .before .before .before .before .before .before .before .before .before .before .before .before .before .before .before .before .pre .1 .1 .1 .1 .0, l .inv .2)) (omega (arith, c .before .before .before .before .before .before .before .before .before .before .before .before .before .before .before .before .before .before .before .before .before .before .before .before .before .pre .1 .1 .1 .1 .1, l .inv .3)) (c .before .before .before .before .before .before .before .before .before .before .before .before .before .before .before .before .before .before .before .before .before .before .before .before .before .pre .1 .0) (c .before .before .before .before .before .before .before .before .before .before .before .before .before .before .before .before .before .before .before .before .before .before .before .before .before .pre .0) in
     omega (arith, h .2)
 
--- src/distinct.rt:91:5
 loop-less : tie.Need-loop-less Inv-loop μ-loop
 loop-less c = omega (arith, c .before .before .before .before .before .before .before .before .before .before .before .before .loop-test .taken)
 
--- src/distinct.rt:91:5
 loop-again : tie.Need-loop-again Inv-loop μ-loop
 loop-again c =
     let a = c .before .before .before .before .before .before .before .before .before .before .before .before .before .before .before .before .before .before .before .before .before .before .before .before .before .args in
     let l = c .before .before .before .before .before .before .before .before .before .before .before .before .before .loop in
     (sifting-next (a .bytes .now) (a .place) (a .inputs) (a .count) (l .i) (l .word) (l .n) (l .numbers) (l .places) (l .marks) (l .inv .0) (c .before .before .before .before .before .before .before .before .before .before .before .before .loop-test .taken) (omega (arith, c .before .before .before .before .before .before .before .before .before .before .before .before .before .before .before .before .before .before .before .before .before .before .before .before .before .pre .1 .1 .1 .1 .0, l .inv .2)) (omega (arith, c .before .before .before .before .before .before .before .before .before .before .before .before .before .before .before .before .before .before .before .before .before .before .before .before .before .pre .1 .1 .1 .1 .1, l .inv .3)) (c .before .before .before .before .before .before .before .before .before .before .seen-before .result) _ _ _ _ _ (λ ws. c .before .before .before .before .before .before .before .before .before .before .seen-before .ensures _ ws (c .before .before .before .before .before .before .before .before .before .before .before .before .before .before .before .before .before .before .before .before .before .before .before .before .before .pre .1 .1 .0)) (c .before .before .before .before .before .store-first .ensures) (c .word-length .ensures .1), c .before .before .before .before .before .before .before .before .before .before .seen-before .kept .1 .1 .1 .1 .1 .0 ∙ l .inv .1, c .before .before .before .before .before .store-first .kept .1 .0 ∙ l .inv .2, c .before .before .before .before .before .store-first .kept .1 .1 .0 ∙ l .inv .3)
 
--- src/distinct.rt:68:1
 same-length : tie.Need-same-length Inv-loop μ-loop
 same-length c = c .before .loop .inv .1 ∙ c .before .before .before .before .clear-marks .kept .0
 
--- src/distinct.rt:68:1
 same-length-2 : tie.Need-same-length-2 Inv-loop μ-loop
 same-length-2 c = c .before .loop .inv .2
 
--- src/distinct.rt:68:1
 same-length-3 : tie.Need-same-length-3 Inv-loop μ-loop
 same-length-3 c = c .before .loop .inv .3
 
--- src/distinct.rt:68:1
 returns : tie.Need-returns Inv-loop μ-loop
 returns c =
     let a = c .before .before .before .before .before .before .before .before .before .before .before .before .before .args in

@@ -9,35 +9,27 @@ use Rattle.filing.proofs.walks.walk_word.Reads as walk-word-reads
 use Rattle.trie.proofs.is_marked.Reads as is-marked-reads
 use Rattle.trie.proofs.mark.Reads as mark-reads
 
--- src/distinct.rt:36:11
 walk-word-requires : tie.Need-walk-word-requires
 walk-word-requires c κs = search needs
 
--- src/distinct.rt:37:20
 enum-known-node : tie.Need-enum-known-node
 enum-known-node c = search needs
 
--- src/distinct.rt:38:17
 is-marked-requires : tie.Need-is-marked-requires
 is-marked-requires c κs = seen-below _ _ _ (c .before .before .before .before .before .before .before .before .before .before .pre .1 .0 .holds .proper) (c .before .before .before .before .walk-word .ensures _ (c .before .before .before .before .before .before .before .before .before .before .pre .1 .0 .holds) (c .before .before .before .before .before .before .before .before .before .before .pre .1 .0 .below)) _ _ _ (c .before .before .before .before .before .before .before .before .before .before .args .marks .now) _ (c .before .before .before .before .before .before .before .before .before .before .pre .1 .0 .holds) (c .before .before .before .before .before .before .before .before .before .before .pre .1 .1) (c .before .before .node .given .1)
 
--- src/distinct.rt:39:13
 mark-requires : tie.Need-mark-requires
 mark-requires c κs = seen-below _ _ _ (c .before .before .before .before .before .before .before .before .before .before .before .before .pre .1 .0 .holds .proper) (c .before .before .before .before .before .before .walk-word .ensures _ (c .before .before .before .before .before .before .before .before .before .before .before .before .pre .1 .0 .holds) (c .before .before .before .before .before .before .before .before .before .before .before .before .pre .1 .0 .below)) _ _ _ (c .before .before .before .before .before .before .before .before .before .before .before .before .args .marks .now) _ (c .before .before .before .before .before .before .before .before .before .before .before .before .pre .1 .0 .holds) (c .before .before .before .before .before .before .before .before .before .before .before .before .pre .1 .1) (c .before .before .before .before .node .given .1)
 
--- src/distinct.rt:42:24
 enum-told : tie.Need-enum-told
 enum-told c = search needs
 
--- src/distinct.rt:23:1
 same-length : tie.Need-same-length
 same-length c = search needs
 
--- src/distinct.rt:23:1
 returns : tie.Need-returns
 returns c = λ t ws h has noted. seen-word t _ _ (h .proper) (c .before .before .before .before .before .before .before .before .before .walk-word .ensures t h (size-pos t)) _ (c .before .before .before .before .before .before .before .node .given .1) ws _ _ (c .before .before .before .before .is-marked .ensures t ws noted) (c .before .before .mark .ensures t ws (h .proper) noted)
 
--- src/distinct.rt:23:1
 returns-2 : tie.Need-returns-2
 returns-2 c = λ t ws h has noted. seen-off t _ _ (h .proper) (c .before .before .walk-word .ensures t h (size-pos t)) has (c .enum-told .given .1)
 

@@ -7,51 +7,39 @@ use Rattle.filing.proofs.fill.put_word.Lts as lts
 use Rattle.trie.proofs.insert_at.Reads as insert-at-reads
 use Rattle.walker.proofs.word_length.Reads as word-length-reads
 
--- src/fill.rt:30:15
 add-end : tie.Need-add-end
 add-end c = search needs
 
--- src/fill.rt:30:26
 word-length-requires : tie.Need-word-length-requires
 word-length-requires c κs = search needs
 
--- src/fill.rt:30:15
 add-end-2 : tie.Need-add-end-2
 add-end-2 c = search needs
 
--- src/fill.rt:31:55
 add-insert-at : tie.Need-add-insert-at
 add-insert-at c = search needs
 
--- src/fill.rt:31:48
 sub-insert-at : tie.Need-sub-insert-at
 sub-insert-at c = search needs
 
--- src/fill.rt:31:48
 part-insert-at-start : tie.Need-part-insert-at-start
 part-insert-at-start c = search needs
 
--- src/fill.rt:31:48
 part-insert-at-end : tie.Need-part-insert-at-end
 part-insert-at-end c = search needs
 
--- src/fill.rt:31:5
 insert-at-requires : tie.Need-insert-at-requires
 insert-at-requires c κs = search needs
 
--- src/fill.rt:17:1
 same-length : tie.Need-same-length
 same-length c = search needs
 
--- src/fill.rt:17:1
 same-length-2 : tie.Need-same-length-2
 same-length-2 c = search needs
 
--- src/fill.rt:17:1
 same-length-3 : tie.Need-same-length-3
 same-length-3 c = search needs
 
--- src/fill.rt:17:1
 returns : tie.Need-returns
 returns c = λ t h e. rw (word-part (c .before .before .before .before .before .before .before .before .before .before .before .before .before .before .before .before .args .bytes .now) (c .before .before .before .before .before .before .before .before .before .before .before .before .before .before .before .before .args .word) _ (c .before .before .before .before .before .before .before .before .before .before .before .word-length .ensures .1)) at (c .before .before .before .before .before .before .insert-at .ensures t h e)
 

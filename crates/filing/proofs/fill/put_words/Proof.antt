@@ -22,79 +22,60 @@ abbrev μ-loop : tie.MeasureT-loop
 μ-loop bytes place inputs count label₀ first₀ next₀ nodes₀ left₀ word₀ label first next nodes left word =
     left
 
--- src/fill.rt:49:9
 start-requires : tie.Need-start-requires Inv-loop μ-loop
 start-requires c κs = ((omega (arith, c .before .before .before .before .before .before .before .pre .1 .0 .0), c .before .before .before .before .before .before .before .pre .1 .0 .1), c .before .before .before .before .before .before .before .pre .1 .1)
 
--- src/fill.rt:52:5
 loop-holds : tie.Need-loop-holds Inv-loop μ-loop
 loop-holds c = (c .before .before .before .before .before .before .before .before .before .before .before .before .before .before .pre .0, filling-start _ _ _ _ _ (c .before .before .before .before .before .before .start .ensures .1) (c .before .before .before .before .before .before .start .ensures .0), refl, refl, refl)
 
--- src/fill.rt:53:15
 put-word-requires : tie.Need-put-word-requires Inv-loop μ-loop
 put-word-requires c κs = (word-turn _ _ _ _ (c .before .before .before .loop-test .taken) (c .before .before .before .before .loop .inv .0) .here .inside, filling-counted (c .before .before .before .before .loop .inv .1))
 
--- src/fill.rt:54:30
 enum-known-more : tie.Need-enum-known-more Inv-loop μ-loop
 enum-known-more c = search needs
 
--- src/fill.rt:58:17
 enum-told : tie.Need-enum-told Inv-loop μ-loop
 enum-told c = search needs
 
--- src/fill.rt:58:17
 same-length : tie.Need-same-length Inv-loop μ-loop
 same-length c = c .before .before .before .before .before .before .before .before .put-word .kept .1 .1 .0 ∙ c .before .before .before .before .before .before .before .before .before .before .before .before .before .loop .inv .2 ∙ c .before .before .before .before .before .before .before .before .before .before .before .before .before .before .before .before .before .before .before .before .start .kept .0
 
--- src/fill.rt:58:17
 same-length-2 : tie.Need-same-length-2 Inv-loop μ-loop
 same-length-2 c = c .before .before .before .before .before .before .before .before .put-word .kept .1 .1 .1 .0 ∙ c .before .before .before .before .before .before .before .before .before .before .before .before .before .loop .inv .3 ∙ c .before .before .before .before .before .before .before .before .before .before .before .before .before .before .before .before .before .before .before .before .start .kept .1 .0
 
--- src/fill.rt:58:17
 same-length-3 : tie.Need-same-length-3 Inv-loop μ-loop
 same-length-3 c = c .before .before .before .before .before .before .before .before .put-word .kept .1 .1 .1 .1 .0 ∙ c .before .before .before .before .before .before .before .before .before .before .before .before .before .loop .inv .4 ∙ c .before .before .before .before .before .before .before .before .before .before .before .before .before .before .before .before .before .before .before .before .start .kept .1 .1 .0
 
--- src/fill.rt:58:17
 returns : tie.Need-returns Inv-loop μ-loop
 returns c = filling-full _ _ _ _ (c .before .before .before .before .before .before .before .before .before .before .before .before .loop-test .taken) (c .before .before .before .before .before .before .before .before .before .before .before .before .before .loop .inv .0) _ _ _ _ _ (c .before .before .before .before .before .before .before .before .before .before .before .before .before .loop .inv .1) _ _ _ _ (c .before .before .before .before .before .before .before .before .put-word .ensures) (omega (arith, c .before .before .before .before .before .before .before .before .before .before .before .before .before .before .before .before .before .before .before .before .before .before .before .before .before .before .before .before .pre .1 .0 .0, c .before .before .before .before .before .before .before .before .put-word .kept .1 .1 .0, c .before .before .before .before .before .before .before .before .before .before .before .before .before .loop .inv .2, c .before .before .before .before .before .before .before .before .before .before .before .before .before .before .before .before .before .before .before .before .start .kept .0)) (c .enum-told .given .1)
 
--- src/fill.rt:61:16
 add-word : tie.Need-add-word Inv-loop μ-loop
 add-word c = let h = word-turn _ _ _ _ (c .before .before .before .before .before .before .before .before .before .before .before .before .before .loop-test .taken) (c .before .before .before .before .before .before .before .before .before .before .before .before .before .before .loop .inv .0) .here .inside in omega arith
 
--- src/fill.rt:61:27
 word-length-requires : tie.Need-word-length-requires Inv-loop μ-loop
 word-length-requires c κs = word-turn _ _ _ _ (c .before .before .before .before .before .before .before .before .before .before .before .before .before .loop-test .taken) (c .before .before .before .before .before .before .before .before .before .before .before .before .before .before .loop .inv .0) .here .inside
 
--- src/fill.rt:61:16
 add-word-2 : tie.Need-add-word-2 Inv-loop μ-loop
 add-word-2 c = let h = word-room _ _ _ _ _ (c .before .before .before .before .before .before .before .before .before .before .before .before .before .before .loop-test .taken) (c .before .before .before .before .before .before .before .before .before .before .before .before .before .before .before .loop .inv .0) (c .word-length .ensures .1) in omega arith
 
--- src/fill.rt:62:9
 sub-left : tie.Need-sub-left Inv-loop μ-loop
 sub-left c = search needs
 
--- src/fill.rt:52:5
 loop-less : tie.Need-loop-less Inv-loop μ-loop
 loop-less c = search needs
 
--- src/fill.rt:52:5
 loop-again : tie.Need-loop-again Inv-loop μ-loop
 loop-again c = (words-after _ _ _ _ _ (c .before .before .before .before .before .before .before .before .before .before .before .before .before .before .loop-test .taken) (c .before .before .before .before .before .before .before .before .before .before .before .before .before .before .before .loop .inv .0) (c .word-length .ensures .1), filling-next _ _ _ _ (c .before .before .before .before .before .before .before .before .before .before .before .before .before .before .loop-test .taken) (c .before .before .before .before .before .before .before .before .before .before .before .before .before .before .before .loop .inv .0) _ _ _ _ _ (c .before .before .before .before .before .before .before .before .before .before .before .before .before .before .before .loop .inv .1) _ _ _ _ (c .before .before .before .before .before .before .before .before .before .before .put-word .ensures) _ _ _ (c .word-length .ensures .1) (c .before .before .more .given .1), c .before .before .before .before .before .before .before .before .before .before .put-word .kept .1 .1 .0 ∙ c .before .before .before .before .before .before .before .before .before .before .before .before .before .before .before .loop .inv .2, c .before .before .before .before .before .before .before .before .before .before .put-word .kept .1 .1 .1 .0 ∙ c .before .before .before .before .before .before .before .before .before .before .before .before .before .before .before .loop .inv .3, c .before .before .before .before .before .before .before .before .before .before .put-word .kept .1 .1 .1 .1 .0 ∙ c .before .before .before .before .before .before .before .before .before .before .before .before .before .before .before .loop .inv .4)
 
--- src/fill.rt:35:1
 same-length-4 : tie.Need-same-length-4 Inv-loop μ-loop
 same-length-4 c = c .before .loop .inv .2 ∙ c .before .before .before .before .before .before .before .before .start .kept .0
 
--- src/fill.rt:35:1
 same-length-5 : tie.Need-same-length-5 Inv-loop μ-loop
 same-length-5 c = c .before .loop .inv .3 ∙ c .before .before .before .before .before .before .before .before .start .kept .1 .0
 
--- src/fill.rt:35:1
 same-length-6 : tie.Need-same-length-6 Inv-loop μ-loop
 same-length-6 c = c .before .loop .inv .4 ∙ c .before .before .before .before .before .before .before .before .start .kept .1 .1 .0
 
--- src/fill.rt:35:1
 returns-2 : tie.Need-returns-2 Inv-loop μ-loop
 returns-2 c = filling-end _ _ _ _ _ _ _ _ (c .loop-test .left) (c .before .loop .inv .1)
 

@@ -7,39 +7,30 @@ use Rattle.filing.proofs.walks.walk_word.Lts as lts
 use Rattle.trie.proofs.walk.Reads as walk-reads
 use Rattle.walker.proofs.word_length.Reads as word-length-reads
 
--- src/walks.rt:19:15
 add-end : tie.Need-add-end
 add-end c = search needs
 
--- src/walks.rt:19:26
 word-length-requires : tie.Need-word-length-requires
 word-length-requires c κs = search needs
 
--- src/walks.rt:19:15
 add-end-2 : tie.Need-add-end-2
 add-end-2 c = search needs
 
--- src/walks.rt:20:43
 add-walk : tie.Need-add-walk
 add-walk c = search needs
 
--- src/walks.rt:20:36
 sub-walk : tie.Need-sub-walk
 sub-walk c = search needs
 
--- src/walks.rt:20:36
 part-walk-start : tie.Need-part-walk-start
 part-walk-start c = search needs
 
--- src/walks.rt:20:36
 part-walk-end : tie.Need-part-walk-end
 part-walk-end c = search needs
 
--- src/walks.rt:20:5
 walk-requires : tie.Need-walk-requires
 walk-requires c κs = search needs
 
--- src/walks.rt:14:1
 returns : tie.Need-returns
 returns c = λ t h less. rw (word-part (c .before .before .before .before .before .before .before .args .bytes .now) (c .before .before .before .before .before .before .before .args .word) _ (c .before .before .word-length .ensures .1)) at (c .walk .ensures t h less)
 

@@ -11,40 +11,32 @@ use Rattle.grower.proofs.cover.grow_cover.Lts as lts
 use Rattle.filing.proofs.put_word.Reads as put-word-reads
 use Rattle.branches.proofs.grow.Reads as grow-reads
 
--- src/cover.rt:55:9
 put-word-requires : tie.Need-put-word-requires
 put-word-requires c κs =
     let p = c .before .before .before .before .before .before .before .before .before .pre in
     let v = p .1 .0 in
     (p .0 .0, (record { trie = v .trie; holds = v .holds; counted = v .counted }, omega (arith, v .counted, size-pos (v .trie))))
 
--- src/cover.rt:56:23
 enum-known-put : tie.Need-enum-known-put
 enum-known-put c = search needs
 
--- src/cover.rt:57:9
 enum-told : tie.Need-enum-told
 enum-told c = search needs
 
--- src/cover.rt:57:9
 same-length : tie.Need-same-length
 same-length c = c .before .before .before .before .before .before .before .before .put-word .kept .1 .1 .0
 
--- src/cover.rt:57:9
 same-length-2 : tie.Need-same-length-2
 same-length-2 c = c .before .before .before .before .before .before .before .before .put-word .kept .1 .1 .1 .0
 
--- src/cover.rt:57:9
 same-length-3 : tie.Need-same-length-3
 same-length-3 c = c .before .before .before .before .before .before .before .before .put-word .kept .1 .1 .1 .1 .0
 
--- src/cover.rt:57:9
 returns : tie.Need-returns
 returns c =
     let p = c .before .before .before .before .before .before .before .before .before .before .before .before .before .before .before .before .before .before .pre in
     λ t h e d. cover-full _ _ _ _ _ (record { number = 0; below = p .0 .1 .one; stands = refl }) t _ _ _ _ _ h e d _ _ _ _ (c .before .before .before .before .before .before .before .before .put-word .ensures) (c .enum-told .given .1)
 
--- src/cover.rt:59:5
 grow-requires : tie.Need-grow-requires
 grow-requires c κs =
     let p = c .before .before .before .before .before .before .before .before .before .before .before .before .before .before .before .before .before .before .before .before .before .before .before .pre in
@@ -52,23 +44,18 @@ grow-requires c κs =
     let ready = cover-ready _ _ 0 _ _ (record { number = 0; below = p .0 .1 .one; stands = refl }) (v .trie) _ _ _ _ _ (v .holds) (v .counted) (v .marked) _ _ _ _ (c .before .before .before .before .before .before .before .before .before .before .before .before .before .put-word .ensures) _ _ (c .before .before .before .before .before .put .given .1) in
     (p .0 .1, (ready .0, (ready .1, p .1 .1 .0, p .1 .1 .1 ∙ sym (c .before .before .before .before .before .before .before .before .before .before .before .before .before .put-word .kept .1 .1 .0))))
 
--- src/cover.rt:37:1
 same-length-4 : tie.Need-same-length-4
 same-length-4 c = c .before .before .before .before .before .before .before .before .grow .kept .1 .1 .1 .1 .0 ∙ c .before .before .before .before .before .before .before .before .before .before .before .before .before .before .before .before .before .before .before .before .before .before .put-word .kept .1 .1 .0
 
--- src/cover.rt:37:1
 same-length-5 : tie.Need-same-length-5
 same-length-5 c = c .before .before .before .before .before .before .before .before .grow .kept .1 .1 .1 .1 .1 .0 ∙ c .before .before .before .before .before .before .before .before .before .before .before .before .before .before .before .before .before .before .before .before .before .before .put-word .kept .1 .1 .1 .0
 
--- src/cover.rt:37:1
 same-length-6 : tie.Need-same-length-6
 same-length-6 c = c .before .before .before .before .before .before .before .before .grow .kept .1 .1 .1 .1 .1 .1 .0 ∙ c .before .before .before .before .before .before .before .before .before .before .before .before .before .before .before .before .before .before .before .before .before .before .put-word .kept .1 .1 .1 .1 .0
 
--- src/cover.rt:37:1
 same-length-7 : tie.Need-same-length-7
 same-length-7 c = c .before .before .before .before .before .before .before .before .grow .kept .1 .1 .1 .1 .1 .1 .1 .0
 
--- src/cover.rt:37:1
 returns-2 : tie.Need-returns-2
 returns-2 c =
     let p = c .before .before .before .before .before .before .before .before .before .before .before .before .before .before .before .before .before .before .before .before .before .before .before .before .before .before .before .before .before .before .before .before .pre in

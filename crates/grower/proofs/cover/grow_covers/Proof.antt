@@ -25,81 +25,63 @@ Inv-loop bytes places n label₀ first₀ next₀ done₀ inputs left nodes₀ r
 abbrev μ-loop : tie.MeasureT-loop
 μ-loop bytes places n label₀ first₀ next₀ done₀ inputs left nodes₀ rest₀ word₀ label first next done nodes rest word = rest
 
--- src/cover.rt:90:9
 longest-middle-requires : tie.Need-longest-middle-requires Inv-loop μ-loop
 longest-middle-requires c κs = bound-near _ _ (c .before .before .before .before .before .before .pre .0 .0)
 
--- src/cover.rt:91:5
 clear-marks-requires : tie.Need-clear-marks-requires Inv-loop μ-loop
 clear-marks-requires c κs = search needs
 
--- src/cover.rt:92:9
 start-requires : tie.Need-start-requires Inv-loop μ-loop
 start-requires c κs = let p = c .before .before .before .before .before .before .before .before .before .before .before .before .before .before .pre .1 in ((omega (arith, p .0), omega (arith, p .0)), (p .1 ∙ sym (p .0), p .2 ∙ sym (p .0)))
 
--- src/cover.rt:95:5
 loop-holds : tie.Need-loop-holds Inv-loop μ-loop
 loop-holds c =
     (c .before .before .before .before .before .before .before .before .before .before .before .before .before .before .before .before .before .before .before .before .before .pre .0 .0 .stands .cover, covering-start _ _ _ _ _ _ _ _ _ (c .before .before .before .before .before .before .start .ensures .1) (c .before .before .before .before .before .before .start .ensures .0) (c .before .before .before .before .before .before .before .before .before .before .before .before .clear-marks .ensures), refl, refl, refl, refl)
 
--- src/cover.rt:96:13
 grow-cover-requires : tie.Need-grow-cover-requires Inv-loop μ-loop
 grow-cover-requires c κs =
     let p = c .before .before .before .before .before .before .before .before .before .before .before .before .before .before .before .before .before .before .before .before .before .before .before .before .before .before .before .pre in
     ((word-turn _ _ _ (c .before .before .before .before .before .loop .rest) (omega (arith, c .before .before .before .before .loop-test .taken)) (c .before .before .before .before .before .loop .inv .0) .here .inside, listed-separators _ _ _ _ (p .0 .2) (p .0 .1)), (covering-ready _ _ _ _ (c .before .before .before .before .before .loop .inv .1), (omega (arith, c .before .before .before .before .before .before .before .before .before .before .before .before .before .before .before .before .before .before .before .before .longest-middle .ensures .1), omega (arith, p .1 .0, p .1 .3, c .before .before .before .before .before .loop .inv .2, c .before .before .before .before .before .loop .inv .5, c .before .before .before .before .before .before .before .before .before .before .before .before .start .kept .0, c .before .before .before .before .before .before .before .before .before .before .before .before .before .before .before .before .before .before .clear-marks .kept .0))))
 
--- src/cover.rt:109:26
 enum-known-grown : tie.Need-enum-known-grown Inv-loop μ-loop
 enum-known-grown c = search needs
 
--- src/cover.rt:110:13
 enum-told : tie.Need-enum-told Inv-loop μ-loop
 enum-told c = search needs
 
--- src/cover.rt:110:13
 same-length : tie.Need-same-length Inv-loop μ-loop
 same-length c = c .before .before .before .before .before .before .before .before .before .before .grow-cover .kept .1 .1 .1 .1 .1 .0 ∙ c .before .before .before .before .before .before .before .before .before .before .before .before .before .before .before .before .loop .inv .2 ∙ c .before .before .before .before .before .before .before .before .before .before .before .before .before .before .before .before .before .before .before .before .before .before .before .start .kept .0
 
--- src/cover.rt:110:13
 same-length-2 : tie.Need-same-length-2 Inv-loop μ-loop
 same-length-2 c = c .before .before .before .before .before .before .before .before .before .before .grow-cover .kept .1 .1 .1 .1 .1 .1 .0 ∙ c .before .before .before .before .before .before .before .before .before .before .before .before .before .before .before .before .loop .inv .3 ∙ c .before .before .before .before .before .before .before .before .before .before .before .before .before .before .before .before .before .before .before .before .before .before .before .start .kept .1 .0
 
--- src/cover.rt:110:13
 same-length-3 : tie.Need-same-length-3 Inv-loop μ-loop
 same-length-3 c = c .before .before .before .before .before .before .before .before .before .before .grow-cover .kept .1 .1 .1 .1 .1 .1 .1 .0 ∙ c .before .before .before .before .before .before .before .before .before .before .before .before .before .before .before .before .loop .inv .4 ∙ c .before .before .before .before .before .before .before .before .before .before .before .before .before .before .before .before .before .before .before .before .before .before .before .start .kept .1 .1 .0
 
--- src/cover.rt:110:13
 same-length-4 : tie.Need-same-length-4 Inv-loop μ-loop
 same-length-4 c = c .before .before .before .before .before .before .before .before .before .before .grow-cover .kept .1 .1 .1 .1 .1 .1 .1 .1 .0 ∙ c .before .before .before .before .before .before .before .before .before .before .before .before .before .before .before .before .loop .inv .5 ∙ c .before .before .before .before .before .before .before .before .before .before .before .before .before .before .before .before .before .before .before .before .before .before .before .before .before .before .before .before .before .clear-marks .kept .0
 
--- src/cover.rt:110:13
 returns : tie.Need-returns Inv-loop μ-loop
 returns c =
     let p = c .before .before .before .before .before .before .before .before .before .before .before .before .before .before .before .before .before .before .before .before .before .before .before .before .before .before .before .before .before .before .before .before .before .before .before .before .before .before .pre in
     λ d reads. grown-full _ _ (p .0 .0) _ _ (p .0 .2) _ (c .before .before .before .before .before .before .before .before .before .before .before .before .before .before .before .before .before .before .before .before .before .before .before .before .before .before .before .before .before .before .before .longest-middle .ensures .0) d reads (c .before .before .before .before .before .before .before .before .before .before .grow-cover .last .1 .1 .1 .1 .1 .0) (c .before .before .before .before .before .before .before .before .before .before .grow-cover .kept .1 .1 .1 .1 .1 .0 ∙ c .before .before .before .before .before .before .before .before .before .before .before .before .before .before .before .before .loop .inv .2 ∙ c .before .before .before .before .before .before .before .before .before .before .before .before .before .before .before .before .before .before .before .before .before .before .before .start .kept .0 ∙ p .1 .0)
     (covering-full _ _ _ _ _ _ _ (omega (arith, c .before .before .before .before .before .before .before .before .before .before .before .before .before .before .before .loop-test .taken)) (c .before .before .before .before .before .before .before .before .before .before .before .before .before .before .before .before .loop .inv .0) _ _ _ _ _ (c .before .before .before .before .before .before .before .before .before .before .before .before .before .before .before .before .loop .inv .1) _ _ _ _ _ (c .before .before .before .before .before .before .before .before .before .before .grow-cover .ensures) (c .enum-told .given .1))
 
--- src/cover.rt:113:16
 add-word : tie.Need-add-word Inv-loop μ-loop
 add-word c = let h = word-turn _ _ _ (c .before .before .before .before .before .before .before .before .before .before .before .before .before .before .before .before .before .loop .rest) (omega (arith, c .before .before .before .before .before .before .before .before .before .before .before .before .before .before .before .before .loop-test .taken)) (c .before .before .before .before .before .before .before .before .before .before .before .before .before .before .before .before .before .loop .inv .0) .here .inside in omega (arith, h, c .before .before .before .before .before .before .before .before .before .before .before .before .before .before .before .before .before .before .before .before .before .before .before .before .before .before .before .before .before .before .before .before .before .before .before .before .before .before .before .pre .0 .0 .stands .size)
 
--- src/cover.rt:113:27
 word-length-requires : tie.Need-word-length-requires Inv-loop μ-loop
 word-length-requires c κs = word-turn _ _ _ (c .before .before .before .before .before .before .before .before .before .before .before .before .before .before .before .before .before .loop .rest) (omega (arith, c .before .before .before .before .before .before .before .before .before .before .before .before .before .before .before .before .loop-test .taken)) (c .before .before .before .before .before .before .before .before .before .before .before .before .before .before .before .before .before .loop .inv .0) .here .inside
 
--- src/cover.rt:113:16
 add-word-2 : tie.Need-add-word-2 Inv-loop μ-loop
 add-word-2 c = let h = word-room _ _ _ (c .before .before .before .before .before .before .before .before .before .before .before .before .before .before .before .before .before .before .loop .rest) _ (omega (arith, c .before .before .before .before .before .before .before .before .before .before .before .before .before .before .before .before .before .loop-test .taken)) (c .before .before .before .before .before .before .before .before .before .before .before .before .before .before .before .before .before .before .loop .inv .0) (c .word-length .ensures .1) in omega (arith, h, c .before .before .before .before .before .before .before .before .before .before .before .before .before .before .before .before .before .before .before .before .before .before .before .before .before .before .before .before .before .before .before .before .before .before .before .before .before .before .before .before .pre .0 .0 .stands .size)
 
--- src/cover.rt:114:9
 sub-rest : tie.Need-sub-rest Inv-loop μ-loop
 sub-rest c = search needs
 
--- src/cover.rt:95:5
 loop-less : tie.Need-loop-less Inv-loop μ-loop
 loop-less c = search needs
 
--- src/cover.rt:95:5
 loop-again : tie.Need-loop-again Inv-loop μ-loop
 loop-again c = (
   words-after _ _ _ (c .before .before .before .before .before .before .before .before .before .before .before .before .before .before .before .before .before .before .loop .rest) _ (omega (arith, c .before .before .before .before .before .before .before .before .before .before .before .before .before .before .before .before .before .loop-test .taken)) (c .before .before .before .before .before .before .before .before .before .before .before .before .before .before .before .before .before .before .loop .inv .0) (c .word-length .ensures .1),
@@ -110,23 +92,18 @@ loop-again c = (
   c .before .before .before .before .before .before .before .before .before .before .before .before .grow-cover .kept .1 .1 .1 .1 .1 .1 .1 .1 .0 ∙ c .before .before .before .before .before .before .before .before .before .before .before .before .before .before .before .before .before .before .loop .inv .5,
 )
 
--- src/cover.rt:75:1
 same-length-5 : tie.Need-same-length-5 Inv-loop μ-loop
 same-length-5 c = c .before .loop .inv .2 ∙ c .before .before .before .before .before .before .before .before .start .kept .0
 
--- src/cover.rt:75:1
 same-length-6 : tie.Need-same-length-6 Inv-loop μ-loop
 same-length-6 c = c .before .loop .inv .3 ∙ c .before .before .before .before .before .before .before .before .start .kept .1 .0
 
--- src/cover.rt:75:1
 same-length-7 : tie.Need-same-length-7 Inv-loop μ-loop
 same-length-7 c = c .before .loop .inv .4 ∙ c .before .before .before .before .before .before .before .before .start .kept .1 .1 .0
 
--- src/cover.rt:75:1
 same-length-8 : tie.Need-same-length-8 Inv-loop μ-loop
 same-length-8 c = c .before .loop .inv .5 ∙ c .before .before .before .before .before .before .before .before .before .before .before .before .before .before .clear-marks .kept .0
 
--- src/cover.rt:75:1
 returns-2 : tie.Need-returns-2 Inv-loop μ-loop
 returns-2 c =
     let p = c .before .before .before .before .before .before .before .before .before .before .before .before .before .before .before .before .before .before .before .before .before .before .before .pre in

@@ -12,14 +12,12 @@ use Rattle.filing.proofs.put_words.Reads as put-words-reads
 use Rattle.grower.proofs.cover.grow_covers.Reads as grow-covers-reads
 use Rattle.trie.proofs.start.Reads as start-reads
 
--- src/cover.rt:138:5
 put-words-requires : tie.Need-put-words-requires
 put-words-requires c κs =
     let p = c .before .before .before .before .before .before .before .before .before .before .pre in
     let d = p .0 .stands in
     (d .separating, (words-room _ _ _ _ _ (d .separating) (d .size) (p .1 .0 .0), (p .1 .0 .1 ∙ sym (p .1 .0 .0), p .1 .0 .2 ∙ sym (p .1 .0 .0))))
 
--- src/cover.rt:139:9
 find-firsts-requires : tie.Need-find-firsts-requires
 find-firsts-requires c κs =
     let p = c .before .before .before .before .before .before .before .before .before .before .before .before .before .before .before .before .before .before .before .before .before .before .before .pre in
@@ -27,7 +25,6 @@ find-firsts-requires c κs =
     let d = p .0 .stands in
     (d .separating, (d .size, (w .ensures, (p .1 .1 .0 ∙ sym (w .kept .1 .1 .1 .1 .0 ∙ p .1 .0 .0), (omega (arith, d .separating-inside, d .size, p .1 .1 .1), omega (arith, d .separating-inside, d .size, p .1 .1 .2))))))
 
--- src/cover.rt:152:29
 start-requires : tie.Need-start-requires
 start-requires c κs =
     let p = c .before .before .before .before .before .before .before .before .before .before .before .before .before .before .before .before .before .before .before .before .before .before .before .before .before .before .before .before .before .before .before .before .before .before .pre in
@@ -35,31 +32,24 @@ start-requires c κs =
     let long = w .kept .1 .1 .1 .1 .0 ∙ p .1 .0 .0 in
     ((omega (arith, long), omega (arith, long)), (w .kept .1 .1 .1 .1 .1 .0 ∙ p .1 .0 .1 ∙ sym long, w .kept .1 .1 .1 .1 .1 .1 .0 ∙ p .1 .0 .2 ∙ sym long))
 
--- src/cover.rt:152:9
 same-length : tie.Need-same-length
 same-length c = search needs
 
--- src/cover.rt:152:9
 same-length-2 : tie.Need-same-length-2
 same-length-2 c = search needs
 
--- src/cover.rt:152:9
 same-length-3 : tie.Need-same-length-3
 same-length-3 c = search needs
 
--- src/cover.rt:152:9
 same-length-4 : tie.Need-same-length-4
 same-length-4 c = search needs
 
--- src/cover.rt:152:9
 same-length-5 : tie.Need-same-length-5
 same-length-5 c = search needs
 
--- src/cover.rt:152:9
 same-length-6 : tie.Need-same-length-6
 same-length-6 c = search needs
 
--- src/cover.rt:152:9
 returns : tie.Need-returns
 returns c =
     let p = c .before .before .before .before .before .before .before .before .before .before .before .before .before .before .before .before .before .before .before .before .before .before .before .before .before .before .before .before .before .before .before .before .before .before .before .before .before .before .before .before .before .pre in
@@ -67,7 +57,6 @@ returns c =
     let f = c .before .before .before .before .before .before .before .before .before .before .before .before .before .before .before .before .before .find-firsts in
     λ held reads. grown-none _ _ (p .0) _ _ (listed-firsts _ _ _ _ _ (f .last .1 .1 .1 .1 .1 .1 .1 .1 .1 .0) _ (d .separating) (omega (arith, d .separating-inside, d .size, p .1 .1 .2, f .kept .1 .1 .1 .1 .1 .1 .1 .1 .1 .0)) (f .ensures)) _ refl held reads _ _ _ _ (c .before .before .before .before .before .before .before .before .before .before .if1 .taken) (c .before .before .before .before .before .before .start .ensures .1) (c .before .before .before .before .before .before .start .ensures .0)
 
--- src/cover.rt:154:5
 grow-covers-requires : tie.Need-grow-covers-requires
 grow-covers-requires c κs =
     let p = c .before .before .before .before .before .before .before .before .before .before .before .before .before .before .before .before .before .before .before .before .before .before .before .before .before .before .before .before .before .before .before .before .before .before .before .before .pre in
@@ -76,31 +65,24 @@ grow-covers-requires c κs =
     let f = c .before .before .before .before .before .before .before .before .before .before .before .before .find-firsts in
     ((p .0, omega (arith, c .before .before .before .before .before .if1 .left), listed-firsts _ _ _ _ _ (f .last .1 .1 .1 .1 .1 .1 .1 .1 .1 .0) _ (d .separating) (omega (arith, d .separating-inside, d .size, p .1 .1 .2, f .kept .1 .1 .1 .1 .1 .1 .1 .1 .1 .0)) (f .ensures)), (w .kept .1 .1 .1 .1 .0 ∙ p .1 .0 .0, w .kept .1 .1 .1 .1 .1 .0 ∙ p .1 .0 .1, w .kept .1 .1 .1 .1 .1 .1 .0 ∙ p .1 .0 .2, f .kept .1 .1 .1 .1 .1 .1 .1 .0 ∙ p .1 .1 .0))
 
--- src/cover.rt:120:1
 same-length-7 : tie.Need-same-length-7
 same-length-7 c = search needs
 
--- src/cover.rt:120:1
 same-length-8 : tie.Need-same-length-8
 same-length-8 c = search needs
 
--- src/cover.rt:120:1
 same-length-9 : tie.Need-same-length-9
 same-length-9 c = search needs
 
--- src/cover.rt:120:1
 same-length-10 : tie.Need-same-length-10
 same-length-10 c = search needs
 
--- src/cover.rt:120:1
 same-length-11 : tie.Need-same-length-11
 same-length-11 c = search needs
 
--- src/cover.rt:120:1
 same-length-12 : tie.Need-same-length-12
 same-length-12 c = search needs
 
--- src/cover.rt:120:1
 returns-2 : tie.Need-returns-2
 returns-2 c = search needs
 

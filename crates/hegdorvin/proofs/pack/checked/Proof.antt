@@ -10,27 +10,21 @@ use Rattle.hegdorvin.proofs.pack.checked.Lts as lts
 use Rattle.hegdorvin.proofs.pack.plain.Reads as plain-reads
 use Rattle.hegdorvin.proofs.pack.refusal.Reads as refusal-reads
 
--- src/pack.rt:110:30
 enum-told : tie.Need-enum-told
 enum-told c = search needs
 
--- src/pack.rt:110:30
 plain-requires : tie.Need-plain-requires
 plain-requires c κs = search needs
 
--- src/pack.rt:111:26
 enum-known-r : tie.Need-enum-known-r
 enum-known-r c = search needs
 
--- src/pack.rt:111:32
 refusal-requires : tie.Need-refusal-requires
 refusal-requires c κs = let by-r = c .before in let start = by-r .before .before in fits-small (by-r .r .given .0 .0) (rw (by-r .r .given .1) at (start .pre))
 
--- src/pack.rt:105:1
 returns : tie.Need-returns
 returns c = let by-enum-told = c .before in rw (by-enum-told .enum-told .given .1) (plain-packed _ _ _ _ _ _ (c .plain .ensures) refl refl refl refl (λ h. omega arith))
 
--- src/pack.rt:105:1
 returns-2 : tie.Need-returns-2
 returns-2 c = let by-r = c .before .before in rw (by-r .r .given .1) (c .refusal .ensures)
 

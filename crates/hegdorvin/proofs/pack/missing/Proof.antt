@@ -7,47 +7,36 @@ use Rattle.hegdorvin.proofs.pack.missing.Lts as lts
 use Rattle.hegdorvin.proofs.pack.inputs.Reads as inputs-reads
 use Rattle.hegdorvin.proofs.pack.wide.Reads as wide-reads
 
--- src/pack.rt:72:10
 mul-result : tie.Need-mul-result
 mul-result c = search needs
 
--- src/pack.rt:72:5
 add-result : tie.Need-add-result
 add-result c = search needs
 
--- src/pack.rt:73:11
 mul-result-2 : tie.Need-mul-result-2
 mul-result-2 c = search needs
 
--- src/pack.rt:72:5
 add-result-2 : tie.Need-add-result-2
 add-result-2 c = search needs
 
--- src/pack.rt:74:27
 wide-requires : tie.Need-wide-requires
 wide-requires c κs = search needs
 
--- src/pack.rt:74:11
 mul-result-3 : tie.Need-mul-result-3
 mul-result-3 c = search needs
 
--- src/pack.rt:72:5
 add-result-3 : tie.Need-add-result-3
 add-result-3 c = search needs
 
--- src/pack.rt:75:27
 inputs-requires : tie.Need-inputs-requires
 inputs-requires c κs = search needs
 
--- src/pack.rt:75:11
 mul-result-4 : tie.Need-mul-result-4
 mul-result-4 c = search needs
 
--- src/pack.rt:72:5
 add-result-4 : tie.Need-add-result-4
 add-result-4 c = search needs
 
--- src/pack.rt:67:1
 returns : tie.Need-returns
 returns c = missing-packed (c .before .before .args .cover) (c .before .before .args .y) (c .before .before .args .separator) _ _ (rw (c .before .wide .ensures)) (c .inputs .ensures .0)
 

@@ -7,11 +7,9 @@ use Rattle.hegdorvin.proofs.pack.part.Reads as reads
 use Rattle.hegdorvin.proofs.pack.part.Lts as lts
 use Rattle.hegdorvin.proofs.pack.plain.Reads as plain-reads
 
--- src/pack.rt:167:5
 plain-requires : tie.Need-plain-requires
 plain-requires c κs = let f = c .pre .plain (λ e. omega arith) in (omega arith, omega arith, omega (arith, f .first, f .second), omega (arith, f .first, f .second))
 
--- src/pack.rt:163:1
 returns : tie.Need-returns
 returns c = plain-packed _ _ _ _ _ _ (c .plain .ensures) refl refl refl refl (λ h. omega arith)
 

@@ -8,43 +8,33 @@ use Rattle.checker.proofs.accept.Reads as accept-reads
 use Rattle.judge.proofs.answer.examine_both.Reads as examine-both-reads
 use Rattle.reader.proofs.read_sheet.Reads as read-sheet-reads
 
--- src/answer.rt:101:11
 accept-requires : tie.Need-accept-requires
 accept-requires c κs = search needs
 
--- src/answer.rt:102:28
 enum-known-x : tie.Need-enum-known-x
 enum-known-x c = search needs
 
--- src/answer.rt:102:40
 read-sheet-requires : tie.Need-read-sheet-requires
 read-sheet-requires c κs = search needs
 
--- src/answer.rt:103:30
 enum-known-y : tie.Need-enum-known-y
 enum-known-y c = search needs
 
--- src/answer.rt:103:36
 examine-both-requires : tie.Need-examine-both-requires
 examine-both-requires c κs = handed _ _ _ (c .before .before .before .before .before .before .before .accept .ensures) _ (c .before .before .before .before .before .x .given .1) _ (c .before .before .before .read-sheet .ensures) _ (c .before .y .given .1)
 
--- src/answer.rt:104:32
 enum-known-r : tie.Need-enum-known-r
 enum-known-r c = search needs
 
--- src/answer.rt:106:30
 enum-known-r-2 : tie.Need-enum-known-r-2
 enum-known-r-2 c = search needs
 
--- src/answer.rt:98:1
 returns : tie.Need-returns
 returns c = search needs
 
--- src/answer.rt:98:1
 returns-2 : tie.Need-returns-2
 returns-2 c = examined-unread _ _ _ (c .before .before .before .before .before .before .before .accept .ensures) _ (c .before .before .before .before .before .x .given .1) _ (c .before .before .before .read-sheet .ensures) _ (c .before .r .given .1)
 
--- src/answer.rt:98:1
 returns-3 : tie.Need-returns-3
 returns-3 c = examined-unchecked _ _ _ (c .before .before .before .accept .ensures) _ (c .before .r2 .given .1)
 

@@ -7,67 +7,51 @@ use Rattle.judge.proofs.answer.examine_in.Lts as lts
 use Rattle.judge.proofs.answer.examine_matched.Reads as examine-matched-reads
 use Rattle.pairing.proofs.pair.Reads as pair-reads
 
--- src/answer.rt:71:11
 pair-requires : tie.Need-pair-requires
 pair-requires c κs = search needs
 
--- src/answer.rt:72:26
 enum-known-r : tie.Need-enum-known-r
 enum-known-r c = search needs
 
--- src/answer.rt:73:61
 enum-told : tie.Need-enum-told
 enum-told c = search needs
 
--- src/answer.rt:73:26
 examine-matched-requires : tie.Need-examine-matched-requires
 examine-matched-requires c κs = let paired = c .before .before .before .before .before .before .before .before .before .before .before .before .before .before .before .before .pair .ensures in matched _ _ _ _ (c .before .before .before .before .before .before .before .before .before .before .before .before .before .before .before .before .before .before .before .before .before .before .before .before .before .before .before .before .before .pre .0) _ (paired .0) (paired .1) (c .before .before .before .before .enum-told .given .1)
 
--- src/answer.rt:56:1
 same-length : tie.Need-same-length
 same-length c = search needs
 
--- src/answer.rt:56:1
 same-length-2 : tie.Need-same-length-2
 same-length-2 c = search needs
 
--- src/answer.rt:56:1
 same-length-3 : tie.Need-same-length-3
 same-length-3 c = search needs
 
--- src/answer.rt:56:1
 same-length-4 : tie.Need-same-length-4
 same-length-4 c = search needs
 
--- src/answer.rt:56:1
 same-length-5 : tie.Need-same-length-5
 same-length-5 c = search needs
 
--- src/answer.rt:56:1
 returns : tie.Need-returns
 returns c = examined-unpaired _ _ _ _ (c .before .before .before .before .before .before .before .before .before .before .before .before .before .before .before .before .before .before .before .before .before .before .before .before .before .before .pre .0) _ (c .before .before .before .before .before .before .before .before .before .before .before .before .before .pair .ensures .0) _ (c .before .r .given .1)
 
--- src/answer.rt:56:1
 same-length-6 : tie.Need-same-length-6
 same-length-6 c = search needs
 
--- src/answer.rt:56:1
 same-length-7 : tie.Need-same-length-7
 same-length-7 c = search needs
 
--- src/answer.rt:56:1
 same-length-8 : tie.Need-same-length-8
 same-length-8 c = search needs
 
--- src/answer.rt:56:1
 same-length-9 : tie.Need-same-length-9
 same-length-9 c = search needs
 
--- src/answer.rt:56:1
 same-length-10 : tie.Need-same-length-10
 same-length-10 c = search needs
 
--- src/answer.rt:56:1
 returns-2 : tie.Need-returns-2
 returns-2 c = search needs
 

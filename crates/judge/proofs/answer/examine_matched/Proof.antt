@@ -8,31 +8,24 @@ use Rattle.judge.proofs.answer.examine_matched.Lts as lts
 use Rattle.judge.proofs.verdict.find_deviating.Reads as find-deviating-reads
 use Rattle.walker.proofs.word_length.Reads as word-length-reads
 
--- src/answer.rt:44:11
 find-deviating-requires : tie.Need-find-deviating-requires
 find-deviating-requires c κs = let m = c .before .before .before .before .before .before .pre in ((m .handed .stands .table, m .handed .stands .tests), served m)
 
--- src/answer.rt:45:31
 enum-told : tie.Need-enum-told
 enum-told c = search needs
 
--- src/answer.rt:46:23
 enum-known-test : tie.Need-enum-known-test
 enum-known-test c = search needs
 
--- src/answer.rt:49:13
 add-t13 : tie.Need-add-t13
 add-t13 c = omega (arith, deviating-whole (c .before .before .before .before .before .before .before .before .before .before .pre) _ (c .before .before .before .find-deviating .ensures) _ _ _ (c .before .test .given .1))
 
--- src/answer.rt:50:13
 word-length-requires : tie.Need-word-length-requires
 word-length-requires c κs = deviating-whole (c .before .before .before .before .before .before .before .before .before .before .pre) _ (c .before .before .before .find-deviating .ensures) _ _ _ (c .before .test .given .1)
 
--- src/answer.rt:32:1
 returns : tie.Need-returns
 returns c = examined-agrees (c .before .before .before .before .before .before .before .before .before .pre) _ (c .before .before .find-deviating .ensures) (c .enum-told .given .1)
 
--- src/answer.rt:32:1
 returns-2 : tie.Need-returns-2
 returns-2 c = examined-deviates (c .before .before .before .before .before .before .before .before .before .before .before .pre) _ (c .before .before .before .before .find-deviating .ensures) _ _ _ (c .before .before .test .given .1) _ (c .word-length .ensures .0)
 

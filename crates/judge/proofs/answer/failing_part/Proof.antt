@@ -6,31 +6,24 @@ use Rattle.judge.proofs.answer.failing_part.Reads as reads
 use Rattle.judge.proofs.answer.failing_part.Lts as lts
 use Rattle.judge.proofs.answer.examine.Reads as examine-reads
 
--- src/answer.rt:124:11
 examine-requires : tie.Need-examine-requires
 examine-requires c κs = search needs
 
--- src/answer.rt:125:29
 enum-told : tie.Need-enum-told
 enum-told c = search needs
 
--- src/answer.rt:126:34
 enum-known-place : tie.Need-enum-known-place
 enum-known-place c = search needs
 
--- src/answer.rt:127:33
 enum-told-2 : tie.Need-enum-told-2
 enum-told-2 c = search needs
 
--- src/answer.rt:121:1
 returns : tie.Need-returns
 returns c = part-told _ _ _ _ (c .before .before .examine .ensures) (c .enum-told .given .1)
 
--- src/answer.rt:121:1
 returns-2 : tie.Need-returns-2
 returns-2 c = part-told _ _ _ _ (c .before .before .before .examine .ensures) (c .before .place .given .1)
 
--- src/answer.rt:121:1
 returns-3 : tie.Need-returns-3
 returns-3 c = part-told _ _ _ _ (c .before .before .examine .ensures) (c .enum-told2 .given .1)
 

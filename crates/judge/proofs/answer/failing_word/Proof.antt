@@ -7,31 +7,25 @@ use Rattle.judge.proofs.answer.failing_word.Reads as reads
 use Rattle.judge.proofs.answer.failing_word.Lts as lts
 use Rattle.judge.proofs.answer.failing_part.Reads as failing-part-reads
 
--- src/answer.rt:136:9
 failing-part-requires : tie.Need-failing-part-requires
 failing-part-requires c κs = search needs
 
--- src/answer.rt:138:15
 add-end : tie.Need-add-end
 add-end c =
     let a = c .before .before .before .before .args in
     omega (arith, part-inside (a .dossier .now) (a .sheet .now), c .before .failing-part .ensures)
 
--- src/answer.rt:139:5
 sub-result : tie.Need-sub-result
 sub-result c = search needs
 
--- src/answer.rt:139:5
 part-result-start : tie.Need-part-result-start
 part-result-start c = search needs
 
--- src/answer.rt:139:5
 part-result-end : tie.Need-part-result-end
 part-result-end c =
     let a = c .before .before .before .before .args in
     omega (arith, part-inside (a .dossier .now) (a .sheet .now), c .before .failing-part .ensures)
 
--- src/answer.rt:133:1
 returns : tie.Need-returns
 returns c = part-taken _ _ _ _ (c .before .before .failing-part .ensures .0) (c .before .before .failing-part .ensures .1)
 

@@ -6,31 +6,24 @@ use Rattle.judge.proofs.answer.judge.Reads as reads
 use Rattle.judge.proofs.answer.judge.Lts as lts
 use Rattle.judge.proofs.answer.examine.Reads as examine-reads
 
--- src/answer.rt:113:11
 examine-requires : tie.Need-examine-requires
 examine-requires c κs = search needs
 
--- src/answer.rt:114:29
 enum-told : tie.Need-enum-told
 enum-told c = search needs
 
--- src/answer.rt:115:28
 enum-known-test : tie.Need-enum-known-test
 enum-known-test c = search needs
 
--- src/answer.rt:116:27
 enum-known-r : tie.Need-enum-known-r
 enum-known-r c = search needs
 
--- src/answer.rt:110:1
 returns : tie.Need-returns
 returns c = says-judged _ _ _ _ (c .before .before .examine .ensures) (c .enum-told .given .1)
 
--- src/answer.rt:110:1
 returns-2 : tie.Need-returns-2
 returns-2 c = says-judged _ _ _ _ (c .before .before .before .examine .ensures) (c .before .test .given .1)
 
--- src/answer.rt:110:1
 returns-3 : tie.Need-returns-3
 returns-3 c = says-judged _ _ _ _ (c .before .before .before .examine .ensures) (c .before .r .given .1)
 

@@ -28,38 +28,30 @@ Inv-loop dossier x sheet label first next value count i₀ word₀ i word =
 abbrev μ-loop : tie.MeasureT-loop
 μ-loop dossier x sheet label first next value count i₀ word₀ i word = count - i
 
--- src/verdict.rt:58:5
 loop-holds : tie.Need-loop-holds Inv-loop μ-loop
 loop-holds c = (words-begin _ _ _ _ (c .before .before .before .before .before .before .pre .0 .1), place-first _ _, λ rs filed once. word-scan-begin _ _ _ _)
 
--- src/verdict.rt:59:15
 test-difference-requires : tie.Need-test-difference-requires Inv-loop μ-loop
 test-difference-requires c κs = let q = c .before .before .before .before .before .before .before .before .pre in let v = c .before .loop .inv in ((q .0 .0, word-whole _ _ _ _ _ _ (v .0) (c .loop-test .taken) .inside), served-word _ _ _ _ _ _ _ _ _ _ _ (v .0) (c .loop-test .taken) (q .1))
 
 enum-told : tie.Need-enum-told Inv-loop μ-loop
 enum-told c = search needs
 
--- src/verdict.rt:61:28
 enum-known-step : tie.Need-enum-known-step Inv-loop μ-loop
 enum-known-step c = search needs
 
--- src/verdict.rt:62:17
 returns : tie.Need-returns Inv-loop μ-loop
 returns c = λ rs filed once. let v = c .before .before .before .before .before .loop .inv in deviating-found _ _ _ _ _ _ _ rs (v .0) (c .before .before .before .before .loop-test .taken) (v .2 rs filed once) _ (c .before .before .before .test-difference .ensures rs filed once) _ (c .before .step .given .1) (v .1)
 
--- src/verdict.rt:65:16
 add-word : tie.Need-add-word Inv-loop μ-loop
 add-word c = let h = word-whole _ _ _ _ _ _ (c .before .before .before .before .loop .inv .0) (c .before .before .before .loop-test .taken) .inside in omega arith
 
--- src/verdict.rt:65:27
 word-length-requires : tie.Need-word-length-requires Inv-loop μ-loop
 word-length-requires c κs = word-whole _ _ _ _ _ _ (c .before .before .before .before .loop .inv .0) (c .before .before .before .loop-test .taken) .inside
 
--- src/verdict.rt:65:16
 add-word-2 : tie.Need-add-word-2 Inv-loop μ-loop
 add-word-2 c = let h = word-whole _ _ _ _ _ _ (c .before .before .before .before .before .loop .inv .0) (c .before .before .before .before .loop-test .taken) .inside in omega (arith, c .word-length .ensures .1)
 
--- src/verdict.rt:66:9
 add-i : tie.Need-add-i Inv-loop μ-loop
 add-i c =
     let a = c .before .before .before .before .before .before .before .before .before .before .before .before .args in
@@ -67,15 +59,12 @@ add-i c =
     let less : c .before .before .before .before .before .loop .i < a .x .count = c .before .before .before .before .loop-test .taken in
     omega arith
 
--- src/verdict.rt:58:5
 loop-less : tie.Need-loop-less Inv-loop μ-loop
 loop-less c = search needs
 
--- src/verdict.rt:58:5
 loop-again : tie.Need-loop-again Inv-loop μ-loop
 loop-again c = let v = c .before .before .before .before .before .loop .inv in (words-next _ _ _ _ _ _ (v .0) (c .before .before .before .before .loop-test .taken) _ (c .word-length .ensures .1), place-after _ _ _ _ _ (v .1) (c .word-length .ensures .1), λ rs filed once. deviating-next _ _ _ _ _ _ _ rs (v .0) (c .before .before .before .before .loop-test .taken) (v .2 rs filed once) _ (c .before .before .before .test-difference .ensures rs filed once) (c .before .enum-told .given .1) _ (c .word-length .ensures .1))
 
--- src/verdict.rt:42:1
 returns-2 : tie.Need-returns-2 Inv-loop μ-loop
 returns-2 c = λ rs filed once. deviating-end _ _ (c .before .before .before .before .before .before .before .before .args .x .inputs) _ _ _ _ rs (c .loop-test .left) (c .before .loop .inv .2 rs filed once)
 

@@ -7,15 +7,12 @@ use Rattle.judge.proofs.verdict.test_difference.Lts as lts
 use Rattle.records.proofs.record_of.Reads as record-of-reads
 use Rattle.walker.proofs.recorded_difference.Reads as recorded-difference-reads
 
--- src/verdict.rt:37:9
 record-of-requires : tie.Need-record-of-requires
 record-of-requires c κs = let q = c .before .before .before .before .before .before .pre in (q .0 .1, (filed-node (q .1 .filed), q .1 .filed .long))
 
--- src/verdict.rt:38:5
 recorded-difference-requires : tie.Need-recorded-difference-requires
 recorded-difference-requires c κs = let q = c .before .before .before .before .before .before .before .pre in (q .0 .0, answered-stands _ _ _ _ _ _ _ (q .1) _ (c .record-of .ensures))
 
--- src/verdict.rt:23:1
 returns : tie.Need-returns
 returns c = λ rs filed once. answered-compared _ _ _ _ _ _ _ (c .before .before .before .before .before .before .before .before .pre .1) _ (c .before .record-of .ensures) _ _ (c .recorded-difference .ensures) rs filed once
 

@@ -23,35 +23,27 @@ Inv-loop sheet place inputs count label first next marks i₀ at₀ i at =
 abbrev μ-loop : tie.MeasureT-loop
 μ-loop sheet place inputs count label first next marks i₀ at₀ i at = count - i
 
--- src/foreign.rt:110:5
 loop-holds : tie.Need-loop-holds Inv-loop μ-loop
 loop-holds c = (records-begin _ _ _ _ (c .before .before .before .before .before .pre .0), λ tests x. record-scan-begin _ _ _ _)
 
--- src/foreign.rt:111:13
 is-test-requires : tie.Need-is-test-requires Inv-loop μ-loop
 is-test-requires c κs = (record-whole _ _ _ _ _ _ (c .before .loop .inv .0) (c .loop-test .taken) .0 .inside, c .before .before .before .before .before .before .before .pre .1)
 
--- src/foreign.rt:112:13
 returns : tie.Need-returns Inv-loop μ-loop
 returns c = λ tests x. foreign-found tests _ _ _ _ _ _ (c .before .before .before .loop .inv .0) (c .before .before .loop-test .taken) _ (c .before .is-test .ensures tests _ x) (c .before .before .before .loop .inv .1 tests x) (not-true _ (c .if1 .taken))
 
--- src/foreign.rt:114:9
 record-end-requires : tie.Need-record-end-requires Inv-loop μ-loop
 record-end-requires c κs = record-whole _ _ _ _ _ _ (c .before .before .before .loop .inv .0) (c .before .before .loop-test .taken) .1
 
--- src/foreign.rt:115:9
 add-i : tie.Need-add-i Inv-loop μ-loop
 add-i c = search needs
 
--- src/foreign.rt:110:5
 loop-less : tie.Need-loop-less Inv-loop μ-loop
 loop-less c = search needs
 
--- src/foreign.rt:110:5
 loop-again : tie.Need-loop-again Inv-loop μ-loop
 loop-again c = (records-next _ _ _ _ _ _ (c .before .before .before .before .loop .inv .0) (c .before .before .before .loop-test .taken) _ (c .record-end .ensures), λ tests x. foreign-next tests _ _ _ _ _ _ (c .before .before .before .before .loop .inv .0) (c .before .before .before .loop-test .taken) _ (c .before .before .is-test .ensures tests _ x) (c .before .before .before .before .loop .inv .1 tests x) (not-false _ (c .before .if1 .left)) _ (c .record-end .ensures))
 
--- src/foreign.rt:93:1
 returns-2 : tie.Need-returns-2 Inv-loop μ-loop
 returns-2 c = λ tests x. foreign-end tests _ _ (c .before .before .before .before .before .before .before .args .inputs) _ _ _ (c .loop-test .left) (c .before .loop .inv .1 tests x)
 

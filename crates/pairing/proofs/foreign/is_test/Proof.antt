@@ -8,29 +8,23 @@ use Rattle.pairing.proofs.foreign.is_test.Lts as lts
 use Rattle.filing.proofs.walk_word.Reads as walk-word-reads
 use Rattle.trie.proofs.is_marked.Reads as is-marked-reads
 
--- src/foreign.rt:86:11
 walk-word-requires : tie.Need-walk-word-requires
 walk-word-requires c κs = search needs
 
--- src/foreign.rt:87:20
 enum-known-node : tie.Need-enum-known-node
 enum-known-node c = search needs
 
--- src/foreign.rt:87:29
 is-marked-requires : tie.Need-is-marked-requires
 is-marked-requires c κs =
     let q = c .before .before .before .before .before .before .before .before .before .pre in
     node-inside _ _ _ (q .1 .0 .holds .proper) (c .before .before .before .walk-word .ensures _ (q .1 .0 .holds) (q .1 .0 .below)) _ _ _ (c .before .before .before .before .before .before .before .before .before .args .marks .now) _ (q .1 .0 .holds) (q .1 .1) (c .before .node .given .1)
 
--- src/foreign.rt:88:24
 enum-told : tie.Need-enum-told
 enum-told c = search needs
 
--- src/foreign.rt:73:1
 returns : tie.Need-returns
 returns c = λ tests words x there. known-at tests words _ _ _ _ x _ there _ (c .before .before .before .before .walk-word .ensures (x .trie) (x .holds) (size-pos (x .trie))) _ (c .before .before .node .given .1) _ (λ ws noted less. c .is-marked .ensures (x .trie) ws noted less)
 
--- src/foreign.rt:73:1
 returns-2 : tie.Need-returns-2
 returns-2 c = λ tests words x there. known-off tests words _ _ _ _ x _ there _ (c .before .before .walk-word .ensures (x .trie) (x .holds) (size-pos (x .trie))) (c .enum-told .given .1)
 

@@ -8,15 +8,12 @@ use Rattle.pairing.proofs.foreign.mark_test.Lts as lts
 use Rattle.filing.proofs.walk_word.Reads as walk-word-reads
 use Rattle.trie.proofs.mark.Reads as mark-reads
 
--- src/foreign.rt:38:11
 walk-word-requires : tie.Need-walk-word-requires
 walk-word-requires c κs = search needs
 
--- src/foreign.rt:39:20
 enum-known-node : tie.Need-enum-known-node
 enum-known-node c = search needs
 
--- src/foreign.rt:40:13
 mark-requires : tie.Need-mark-requires
 mark-requires c κs =
     let q = c .before .before .before .before .before .before .before .before .before .before .pre in
@@ -25,15 +22,12 @@ mark-requires c κs =
 enum-told : tie.Need-enum-told
 enum-told c = search needs
 
--- src/foreign.rt:25:1
 same-length : tie.Need-same-length
 same-length c = search needs
 
--- src/foreign.rt:25:1
 returns : tie.Need-returns
 returns c = λ t all rest h x. marking-at t _ _ (h .proper) (c .before .before .before .before .before .before .before .walk-word .ensures t h (size-pos t)) _ (c .before .before .before .before .before .node .given .1) all rest _ _ x (λ ws noted less. c .before .before .mark .ensures t ws (h .proper) noted less)
 
--- src/foreign.rt:25:1
 returns-2 : tie.Need-returns-2
 returns-2 c = λ t all rest h x. marking-off t _ _ (h .proper) (c .before .before .walk-word .ensures t h (size-pos t)) (c .enum-told .given .1) all rest _ x
 

@@ -24,47 +24,36 @@ Inv-loop dossier place inputs count label first next marks₀ left₀ word₀ ma
 abbrev μ-loop : tie.MeasureT-loop
 μ-loop dossier place inputs count label first next marks₀ left₀ word₀ marks left word = left
 
--- src/foreign.rt:62:5
 clear-marks-requires : tie.Need-clear-marks-requires Inv-loop μ-loop
 clear-marks-requires c κs = search needs
 
--- src/foreign.rt:65:5
 loop-holds : tie.Need-loop-holds Inv-loop μ-loop
 loop-holds c = (c .before .before .before .before .before .before .before .before .before .pre .0, λ t h. marking-begin t _ _ (c .before .before .clear-marks .ensures t), refl)
 
--- src/foreign.rt:66:9
 mark-test-requires : tie.Need-mark-test-requires Inv-loop μ-loop
 mark-test-requires c κs = (word-turn _ _ _ _ (c .before .loop-test .taken) (c .before .before .loop .inv .0) .here .inside, (c .before .before .before .before .before .before .before .before .before .before .before .before .pre .1 .0, c .before .before .loop .inv .2 ∙ c .before .before .before .before .before .clear-marks .kept .0 ∙ c .before .before .before .before .before .before .before .before .before .before .before .before .pre .1 .1))
 
--- src/foreign.rt:67:16
 add-word : tie.Need-add-word Inv-loop μ-loop
 add-word c = let h = word-turn _ _ _ _ (c .before .before .before .before .loop-test .taken) (c .before .before .before .before .before .loop .inv .0) .here .inside in omega arith
 
--- src/foreign.rt:67:27
 word-length-requires : tie.Need-word-length-requires Inv-loop μ-loop
 word-length-requires c κs = word-turn _ _ _ _ (c .before .before .before .before .loop-test .taken) (c .before .before .before .before .before .loop .inv .0) .here .inside
 
--- src/foreign.rt:67:16
 add-word-2 : tie.Need-add-word-2 Inv-loop μ-loop
 add-word-2 c = let h = word-room _ _ _ _ _ (c .before .before .before .before .before .loop-test .taken) (c .before .before .before .before .before .before .loop .inv .0) (c .word-length .ensures .1) in omega arith
 
--- src/foreign.rt:68:9
 sub-left : tie.Need-sub-left Inv-loop μ-loop
 sub-left c = search needs
 
--- src/foreign.rt:65:5
 loop-less : tie.Need-loop-less Inv-loop μ-loop
 loop-less c = search needs
 
--- src/foreign.rt:65:5
 loop-again : tie.Need-loop-again Inv-loop μ-loop
 loop-again c = (words-after _ _ _ _ _ (c .before .before .before .before .before .loop-test .taken) (c .before .before .before .before .before .before .loop .inv .0) (c .word-length .ensures .1), λ t h. marking-next t _ _ _ _ _ _ _ _ (c .before .before .before .before .before .loop-test .taken) (c .before .before .before .before .before .before .loop .inv .0) (c .word-length .ensures .1) (λ rest x. c .before .before .before .mark-test .ensures t _ rest h x) (c .before .before .before .before .before .before .loop .inv .1 t h), c .before .before .before .mark-test .kept .1 .1 .1 .1 .1 .0 ∙ c .before .before .before .before .before .before .loop .inv .2)
 
--- src/foreign.rt:47:1
 same-length : tie.Need-same-length Inv-loop μ-loop
 same-length c = c .before .loop .inv .2 ∙ c .before .before .before .before .clear-marks .kept .0
 
--- src/foreign.rt:47:1
 returns : tie.Need-returns Inv-loop μ-loop
 returns c = λ t h. marking-end t _ _ _ (c .before .before .before .before .before .before .before .before .before .before .before .args .inputs) _ _ (c .loop-test .left) (c .before .loop .inv .1 t h)
 

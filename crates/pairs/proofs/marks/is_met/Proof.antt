@@ -4,11 +4,9 @@ use borrow.Author.Needs.{needs}
 use Rattle.pairs.proofs.marks.is_met.Statement.{statement}
 use Rattle.pairs.proofs.marks.is_met.Tie as tie
 
--- src/marks.rt:18:5
 shared-slice-read-result : tie.Need-shared-slice-read-result
 shared-slice-read-result c = search needs
 
--- src/marks.rt:14:1
 returns : tie.Need-returns
 unfolding met
 returns c = refl

@@ -3,7 +3,6 @@ use Rattle.pairs.specs.Marks.{unmarked}
 use Rattle.pairs.proofs.marks.no_marks.Statement.{statement}
 use Rattle.pairs.proofs.marks.no_marks.Tie as tie
 
--- src/marks.rt:8:1
 returns : tie.Need-returns
 unfolding unmarked
 returns c = refl

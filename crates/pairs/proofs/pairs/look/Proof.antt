@@ -5,35 +5,27 @@ use borrow.Author.Needs.{needs}
 use Rattle.pairs.proofs.pairs.look.Statement.{statement}
 use Rattle.pairs.proofs.pairs.look.Tie as tie
 
--- src/pairs.rt:59:9
 golden-of-requires : tie.Need-golden-of-requires
 golden-of-requires c κs = search needs
 
--- src/pairs.rt:60:9
 unit-of-requires : tie.Need-unit-of-requires
 unit-of-requires c κs = search needs
 
--- src/pairs.rt:61:9
 outputs-agree-requires : tie.Need-outputs-agree-requires
 outputs-agree-requires c κs = (c .before .before .before .before .pre .0 .table, (c .before .before .before .before .pre .0 .utable, (rw (c .before .golden-of .ensures) (c .before .before .before .before .pre .1 .1 .0), rw (c .unit-of .ensures) (c .before .before .before .before .pre .1 .1 .1), c .before .before .before .before .pre .1 .2)))
 
--- src/pairs.rt:73:9
 returns : tie.Need-returns
 returns c = let a = c .before .before .before .before .before .before .args in look-apart (goldenAt (a .dossier .now) (a .sides)) (unitAt (a .unit .now) (a .sides)) (a .pair) (a .input .0) _ _ _ _ (c .before .before .before .golden-of .ensures) (c .before .before .unit-of .ensures) refl (c .before .outputs-agree .ensures) (c .if1 .taken)
 
--- src/pairs.rt:75:9
 golden-next-requires : tie.Need-golden-next-requires
 golden-next-requires c κs = search needs
 
--- src/pairs.rt:76:9
 unit-next-requires : tie.Need-unit-next-requires
 unit-next-requires c κs = search needs
 
--- src/pairs.rt:77:16
 pair-of-requires : tie.Need-pair-of-requires
 pair-of-requires c κs = search needs
 
--- src/pairs.rt:53:1
 returns-2 : tie.Need-returns-2
 returns-2 c = let a = c .before .before .before .before .before .before .before .before .before .args in look-next (goldenAt (a .dossier .now) (a .sides)) (unitAt (a .unit .now) (a .sides)) (a .pair) (a .input .0) _ _ _ _ (c .before .before .before .before .before .before .golden-of .ensures) (c .before .before .before .before .before .unit-of .ensures) refl (c .before .before .before .before .outputs-agree .ensures) (c .before .before .before .if1 .left) _ _ _ (c .before .before .golden-next .ensures .0) (c .before .unit-next .ensures .0) (c .pair-of .ensures)
 

@@ -5,19 +5,15 @@ use borrow.Author.Needs.{needs}
 use Rattle.pairs.proofs.queue.pair_at.Statement.{statement}
 use Rattle.pairs.proofs.queue.pair_at.Tie as tie
 
--- src/queue.rt:33:10
 mul-wide : tie.Need-mul-wide
 mul-wide c = search needs
 
--- src/queue.rt:33:10
 shared-slice-read-wide : tie.Need-shared-slice-read-wide
 shared-slice-read-wide c = search needs
 
--- src/queue.rt:33:5
 wide-requires : tie.Need-wide-requires
 wide-requires c κs = search needs
 
--- src/queue.rt:29:1
 returns : tie.Need-returns
 unfolding pairAt
 returns c = (rw (c .wide .ensures), mod-lt (c .wide .result) (omega arith))

@@ -3,19 +3,15 @@ use borrow.Author.Needs.{needs}
 use Rattle.pairs.proofs.queue.parent_at.Statement.{statement}
 use Rattle.pairs.proofs.queue.parent_at.Tie as tie
 
--- src/queue.rt:40:10
 mul-wide : tie.Need-mul-wide
 mul-wide c = search needs
 
--- src/queue.rt:40:10
 shared-slice-read-wide : tie.Need-shared-slice-read-wide
 shared-slice-read-wide c = search needs
 
--- src/queue.rt:40:5
 wide-requires : tie.Need-wide-requires
 wide-requires c κs = search needs
 
--- src/queue.rt:36:1
 returns : tie.Need-returns
 unfolding parentAt stepAt
 returns c = rw (c .wide .ensures)

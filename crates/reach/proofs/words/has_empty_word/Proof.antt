@@ -21,39 +21,30 @@ Inv-loop bytes place inputs count left₀ word₀ left word = WordsAt bytes word
 abbrev μ-loop : tie.MeasureT-loop
 μ-loop bytes place inputs count left₀ word₀ left word = left
 
--- src/words.rt:18:5
 loop-holds : tie.Need-loop-holds Inv-loop μ-loop
 loop-holds c = (c .before .pre, refl)
 
--- src/words.rt:19:13
 word-length-requires : tie.Need-word-length-requires Inv-loop μ-loop
 word-length-requires c κs = word-turn _ _ _ _ (c .loop-test .taken) (c .before .loop .inv .0) .here .inside
 
--- src/words.rt:21:13
 returns : tie.Need-returns Inv-loop μ-loop
 returns c = sym (c .before .before .before .loop .inv .1 ∙ empty-found _ _ _ _ _ (c .before .before .loop-test .taken) (c .before .before .before .loop .inv .0) (c .before .word-length .ensures .0) (c .if1 .taken))
 
--- src/words.rt:23:16
 add-word : tie.Need-add-word Inv-loop μ-loop
 add-word c = let h = word-room _ _ _ _ _ (c .before .before .loop-test .taken) (c .before .before .before .loop .inv .0) (c .before .word-length .ensures .1) in omega arith
 
--- src/words.rt:23:16
 add-word-2 : tie.Need-add-word-2 Inv-loop μ-loop
 add-word-2 c = let h = word-room _ _ _ _ _ (c .before .before .loop-test .taken) (c .before .before .before .loop .inv .0) (c .before .word-length .ensures .1) in omega arith
 
--- src/words.rt:24:9
 sub-left : tie.Need-sub-left Inv-loop μ-loop
 sub-left c = search needs
 
--- src/words.rt:18:5
 loop-less : tie.Need-loop-less Inv-loop μ-loop
 loop-less c = search needs
 
--- src/words.rt:18:5
 loop-again : tie.Need-loop-again Inv-loop μ-loop
 loop-again c = (words-after _ _ _ _ _ (c .before .before .loop-test .taken) (c .before .before .before .loop .inv .0) (c .before .word-length .ensures .1), c .before .before .before .loop .inv .1 ∙ empty-next _ _ _ _ _ (c .before .before .loop-test .taken) (c .before .before .before .loop .inv .0) (c .before .word-length .ensures .0) (c .before .word-length .ensures .1) (c .if1 .left))
 
--- src/words.rt:12:1
 returns-2 : tie.Need-returns-2 Inv-loop μ-loop
 returns-2 c = sym (c .before .loop .inv .1 ∙ ap (λ ws. isIn [] ws) (words-end _ _ _ (c .loop-test .left)))
 

@@ -7,27 +7,21 @@ use Rattle.runner.proofs.costing.cost.Lts as lts
 use Rattle.reader.proofs.read_dossier.Reads as read-dossier-reads
 use Rattle.runner.proofs.costing.sum_lengths.Reads as sum-lengths-reads
 
--- src/costing.rt:31:11
 read-dossier-requires : tie.Need-read-dossier-requires
 read-dossier-requires c κs = search needs
 
--- src/costing.rt:32:28
 enum-known-x : tie.Need-enum-known-x
 enum-known-x c = search needs
 
--- src/costing.rt:33:17
 sum-lengths-requires : tie.Need-sum-lengths-requires
 sum-lengths-requires c κs = tests-stand _ _ (c .before .before .before .read-dossier .ensures) _ (c .before .x .given .1)
 
--- src/costing.rt:36:30
 enum-known-r : tie.Need-enum-known-r
 enum-known-r c = search needs
 
--- src/costing.rt:28:1
 returns : tie.Need-returns
 returns c = cost-held _ _ (c .before .before .before .before .read-dossier .ensures) _ (c .before .before .x .given .1) _ (c .sum-lengths .ensures)
 
--- src/costing.rt:28:1
 returns-2 : tie.Need-returns-2
 returns-2 c = cost-refused _ _ (c .before .before .before .read-dossier .ensures) _ (c .before .r .given .1)
 

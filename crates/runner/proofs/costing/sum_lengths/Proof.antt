@@ -19,39 +19,30 @@ Inv-loop bytes place inputs count sum₀ left₀ word₀ sum left word = WordsAt
 abbrev μ-loop : tie.MeasureT-loop
 μ-loop bytes place inputs count sum₀ left₀ word₀ sum left word = left
 
--- src/costing.rt:19:5
 loop-holds : tie.Need-loop-holds Inv-loop μ-loop
 loop-holds c = (c .before .pre, omega arith, sym (zero-add _))
 
--- src/costing.rt:20:13
 word-length-requires : tie.Need-word-length-requires Inv-loop μ-loop
 word-length-requires c κs = word-turn _ _ _ _ (c .loop-test .taken) (c .before .loop .inv .0) .here .inside
 
--- src/costing.rt:21:9
 add-sum : tie.Need-add-sum Inv-loop μ-loop
 add-sum c = let h = word-room _ _ _ _ _ (c .before .loop-test .taken) (c .before .before .loop .inv .0) (c .word-length .ensures .1) in omega (arith, c .before .before .loop .inv .1)
 
--- src/costing.rt:22:16
 add-word : tie.Need-add-word Inv-loop μ-loop
 add-word c = let h = word-room _ _ _ _ _ (c .before .loop-test .taken) (c .before .before .loop .inv .0) (c .word-length .ensures .1) in omega arith
 
--- src/costing.rt:22:16
 add-word-2 : tie.Need-add-word-2 Inv-loop μ-loop
 add-word-2 c = let h = word-room _ _ _ _ _ (c .before .loop-test .taken) (c .before .before .loop .inv .0) (c .word-length .ensures .1) in omega arith
 
--- src/costing.rt:23:9
 sub-left : tie.Need-sub-left Inv-loop μ-loop
 sub-left c = search needs
 
--- src/costing.rt:19:5
 loop-less : tie.Need-loop-less Inv-loop μ-loop
 loop-less c = search needs
 
--- src/costing.rt:19:5
 loop-again : tie.Need-loop-again Inv-loop μ-loop
 loop-again c = (words-after _ _ _ _ _ (c .before .loop-test .taken) (c .before .before .loop .inv .0) (c .word-length .ensures .1), omega (arith, c .before .before .loop .inv .1), sum-next _ _ _ _ _ (c .before .before .loop .inv .2) _ _ (c .before .loop-test .taken) (c .before .before .loop .inv .0) (c .word-length .ensures .0) (c .word-length .ensures .1))
 
--- src/costing.rt:12:1
 returns : tie.Need-returns Inv-loop μ-loop
 returns c = sum-end _ _ _ _ _ (c .before .loop .inv .2) (c .loop-test .left)
 

@@ -10,27 +10,21 @@ use Rattle.runner.proofs.trial.run.Lts as lts
 use Rattle.checker.proofs.accept.Reads as accept-reads
 use Rattle.runner.proofs.trial.try_unit.Reads as try-unit-reads
 
--- src/trial.rt:72:11
 accept-requires : tie.Need-accept-requires
 accept-requires c κs = search needs
 
--- src/trial.rt:73:28
 enum-known-x : tie.Need-enum-known-x
 enum-known-x c = search needs
 
--- src/trial.rt:73:34
 try-unit-requires : tie.Need-try-unit-requires
 try-unit-requires c κs = accepted-at _ _ (c .before .before .before .accept .ensures) _ (c .before .x .given .1)
 
--- src/trial.rt:74:30
 enum-known-r : tie.Need-enum-known-r
 enum-known-r c = search needs
 
--- src/trial.rt:69:1
 returns : tie.Need-returns
 returns c = ap runSays (c .try-unit .ensures)
 
--- src/trial.rt:69:1
 returns-2 : tie.Need-returns-2
 returns-2 c = run-unchecked _ _ (c .before .before .before .accept .ensures) _ _ (c .before .r .given .1)
 

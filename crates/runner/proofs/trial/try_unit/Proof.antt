@@ -9,39 +9,30 @@ use Rattle.reader.proofs.bound_of.Reads as bound-of-reads
 use Rattle.reader.proofs.read_unit.Reads as read-unit-reads
 use Rattle.trials.proofs.try_tests.Reads as try-tests-reads
 
--- src/trial.rt:54:11
 read-unit-requires : tie.Need-read-unit-requires
 read-unit-requires c κs = search needs
 
--- src/trial.rt:55:25
 enum-known-y : tie.Need-enum-known-y
 enum-known-y c = search needs
 
--- src/trial.rt:57:17
 returns : tie.Need-returns
 returns c = run-other-inputs _ _ (c .before .before .before .before .before .before .before .before .pre) _ _ (c .before .before .before .before .before .read-unit .ensures) _ (c .before .before .before .y .given .1) (λ e. omega (arith, e, c .if1 .taken))
 
--- src/trial.rt:59:16
 bound-of-requires : tie.Need-bound-of-requires
 bound-of-requires c κs = search needs
 
--- src/trial.rt:60:17
 returns-2 : tie.Need-returns-2
 returns-2 c = run-too-many-states _ _ (c .before .before .before .before .before .before .before .before .before .before .before .pre) _ _ (c .before .before .before .before .before .before .before .before .read-unit .ensures) _ (c .before .before .before .before .before .before .y .given .1) (omega (arith, c .before .before .before .if1 .left)) _ (c .before .before .bound-of .ensures) (omega (arith, c .if2 .taken))
 
--- src/trial.rt:62:13
 try-tests-requires : tie.Need-try-tests-requires
 try-tests-requires c κs = trial-at _ _ (c .before .before .before .before .before .before .before .before .before .before .before .pre) _ _ (c .before .before .before .before .before .before .before .before .read-unit .ensures) _ (c .before .before .before .before .before .before .y .given .1) (omega (arith, c .before .before .before .if1 .left)) _ (c .before .before .bound-of .ensures) (omega (arith, c .if2 .left))
 
--- src/trial.rt:64:27
 enum-known-r : tie.Need-enum-known-r
 enum-known-r c = search needs
 
--- src/trial.rt:50:1
 returns-3 : tie.Need-returns-3
 returns-3 c = search needs
 
--- src/trial.rt:50:1
 returns-4 : tie.Need-returns-4
 returns-4 c = run-malformed-unit _ _ (c .before .before .before .before .before .before .pre) _ _ (c .before .before .before .read-unit .ensures) _ (c .before .r .given .1)
 

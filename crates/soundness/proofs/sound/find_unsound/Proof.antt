@@ -10,50 +10,39 @@ use Rattle.apart.proofs.unseparated.Reads as unseparated-reads
 use Rattle.reach.proofs.unreached.Reads as unreached-reads
 use Rattle.reach.proofs.has_empty_word.Reads as has-empty-word-reads
 
--- src/sound.rt:26:9
 has-empty-word-requires : tie.Need-has-empty-word-requires
 has-empty-word-requires c κs = search needs
 
--- src/sound.rt:27:9
 returns : tie.Need-returns
 returns c = finds-seven (c .before .before .before .args .bytes .now) (c .before .before .before .args .x) (c .before .before .before .pre) _ (c .before .has-empty-word .ensures) (not-true _ (c .if1 .taken))
 
--- src/sound.rt:29:11
 unreached-requires : tie.Need-unreached-requires
 unreached-requires c κs = search needs
 
--- src/sound.rt:30:24
 enum-known-q : tie.Need-enum-known-q
 enum-known-q c = search needs
 
--- src/sound.rt:31:13
 returns-2 : tie.Need-returns-2
 returns-2 c = finds-eight (c .before .before .before .before .before .before .before .args .bytes .now) (c .before .before .before .before .before .before .before .args .x) (c .before .before .before .before .before .before .before .pre) (c .before .before .before .before .before .has-empty-word .result) (c .before .before .before .before .before .has-empty-word .ensures) (not-false _ (c .before .before .before .before .if1 .left)) _ (c .before .before .before .unreached .ensures) _ (c .before .q .given .1)
 
 enum-told : tie.Need-enum-told
 enum-told c = search needs
 
--- src/sound.rt:36:9
 returns-3 : tie.Need-returns-3
 returns-3 c = finds-nine (c .before .before .before .before .before .before .before .before .args .bytes .now) (c .before .before .before .before .before .before .before .before .args .x) (c .before .before .before .before .before .before .before .before .pre) (c .before .before .before .before .before .before .has-empty-word .result) (c .before .before .before .before .before .before .has-empty-word .ensures) (not-false _ (c .before .before .before .before .before .if1 .left)) _ (c .before .before .before .before .unreached .ensures) (c .before .before .enum-told .given .1) (c .if2 .taken)
 
--- src/sound.rt:38:11
 unseparated-requires : tie.Need-unseparated-requires
 unseparated-requires c κs = search needs
 
--- src/sound.rt:39:23
 enum-known-p : tie.Need-enum-known-p
 enum-known-p c = search needs
 
--- src/sound.rt:40:31
 enum-told-2 : tie.Need-enum-told-2
 enum-told-2 c = search needs
 
--- src/sound.rt:19:1
 returns-4 : tie.Need-returns-4
 returns-4 c = finds-ten (c .before .before .before .before .before .before .before .before .before .before .before .before .args .bytes .now) (c .before .before .before .before .before .before .before .before .before .before .before .before .args .x) (c .before .before .before .before .before .before .before .before .before .before .before .before .pre) (c .before .before .before .before .before .before .before .before .before .before .has-empty-word .result) (c .before .before .before .before .before .before .before .before .before .before .has-empty-word .ensures) (not-false _ (c .before .before .before .before .before .before .before .before .before .if1 .left)) _ (c .before .before .before .before .before .before .before .before .unreached .ensures) (c .before .before .before .before .before .before .enum-told .given .1) (c .before .before .before .before .if2 .left) _ (c .before .before .before .unseparated .ensures) _ _ (c .before .p .given .1)
 
--- src/sound.rt:19:1
 returns-5 : tie.Need-returns-5
 returns-5 c = finds-none (c .before .before .before .before .before .before .before .before .before .before .before .args .bytes .now) (c .before .before .before .before .before .before .before .before .before .before .before .args .x) (c .before .before .before .before .before .before .before .before .before .before .before .pre) (c .before .before .before .before .before .before .before .before .before .has-empty-word .result) (c .before .before .before .before .before .before .before .before .before .has-empty-word .ensures) (not-false _ (c .before .before .before .before .before .before .before .before .if1 .left)) _ (c .before .before .before .before .before .before .before .unreached .ensures) (c .before .before .before .before .before .enum-told .given .1) (c .before .before .before .if2 .left) _ (c .before .before .unseparated .ensures) (c .enum-told2 .given .1)
 
