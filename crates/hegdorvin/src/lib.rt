@@ -1,25 +1,23 @@
 // The library for callers in other languages: each operation once, its answer packed into one number.
-mod pack;
-
 use builder::build;
 use checker::check;
 use comparer::compare;
 use judge::failing_part;
 use judge::judge;
-use pack::built;
-use pack::checked;
-use pack::compared;
-use pack::costed;
-use pack::judged;
-use pack::part;
-use pack::ran;
+use packing::built;
+use packing::checked;
+use packing::compared;
+use packing::costed;
+use packing::judged;
+use packing::part;
+use packing::ran;
 use runner::cost;
 use runner::run;
 ghost use mathlib.Core.Path.{_≡_};
 ghost use mathlib.Core.List.{[], _∷_};
 ghost use Rattle.rules.specs.Answers.{well, checkSays, buildSays, runSays, compareSays, judgeSays, costSays};
 ghost use Rattle.rules.specs.Operations.{checkAnswer, buildAnswer, buildOutput, runAnswer, compareAnswer, compareOutput, judgeAnswer, judgedPart, costAnswer};
-ghost use Rattle.hegdorvin.specs.Packed.{packed};
+ghost use Rattle.packing.specs.Packed.{packed};
 
 #[no_mangle]
 pub extern "C" fn hegdorvin_check(dossier: &[u8]) -> u64
@@ -61,7 +59,8 @@ pub extern "C" fn hegdorvin_judge(dossier: &[u8], sheet: &[u8]) -> u64
 pub extern "C" fn hegdorvin_judge_word(dossier: &[u8], sheet: &[u8]) -> u64
     ensures { λ r. ⌜ r ≡ packed (well (judgedPart (now (dossier .entry)) (now (sheet .entry)) .place ∷ judgedPart (now (dossier .entry)) (now (sheet .entry)) .size ∷ [])) ⌝ }
 {
-    part(failing_part(dossier, sheet))
+    let word = failing_part(dossier, sheet);
+    part(word.place, word.size)
 }
 
 #[no_mangle]

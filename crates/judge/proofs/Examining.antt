@@ -35,13 +35,14 @@ use Rattle.walker.proofs.Words.{word-length}
 use Rattle.soundness.specs.declared.Finding.{Finding}
 use Rattle.soundness.specs.declared.Finding.the-variants.{Fine, Refused}
 use Rattle.soundness.specs.Lent.{findingOf}
-use Rattle.judge.specs.declared.Deviation.{Deviation}
-use Rattle.judge.specs.declared.Deviation.the-variants as deviation
+use Rattle.verdict.specs.declared.Deviation.{Deviation}
+use Rattle.verdict.specs.declared.Deviation.the-variants as deviation
+use Rattle.verdict.specs.Deviations.{Served, deviationOf}
 use Rattle.judge.specs.declared.Examined.{Examined}
 use Rattle.judge.specs.declared.Examined.the-variants as examined
 use Rattle.records.specs.Filed.{Filed}
 use Rattle.pairing.specs.Lent.{testsIn, recordsIn}
-use Rattle.judge.specs.Verdicts.{Handed, Matched, Served, deviationOf, examination, examinedOf}
+use Rattle.judge.specs.Verdicts.{Handed, Matched, examination, examinedOf}
 use Rattle.records.proofs.Standing.{word-here, word-place}
 use Rattle.records.proofs.Looking.{word-of-record}
 

@@ -1,2 +1,1 @@
-pub mod Deviating
 pub mod Examining

@@ -1,8 +1,6 @@
 // The judge's answers (document 01, "Judge"): all of check, the sheet's 1, 2, 5, 6, then 12 to 14, then the verdict.
-use crate::Deviation;
 use crate::Examined;
 use crate::WordPart;
-use crate::verdict::find_deviating;
 use checker::accept;
 use filing::node_bytes;
 use filing::node_links;
@@ -14,6 +12,8 @@ use reader::SheetShape;
 use reader::read_sheet;
 use rules::Judged;
 use soundness::Finding;
+use verdict::Deviation;
+use verdict::find_deviating;
 use walker::word_length;
 ghost use mathlib.Core.Path.{_≡_};
 ghost use lib.ListN.{length};

@@ -2,19 +2,11 @@
 use rules::Refusal;
 
 mod answer;
-mod verdict;
 
 pub use answer::examine_both;
 pub use answer::failing_part;
 pub use answer::failing_word;
 pub use answer::judge;
-
-// The place of the first test whose recorded answer is not the golden's, the first differing step, and the byte place of the
-// test in the dossier.
-pub enum Deviation {
-    Nowhere,
-    At(usize, usize, usize),
-}
 
 // What the judge answers, and of a test that deviates also where its inputs stand in the dossier and how many they are.
 pub enum Examined {
