@@ -1,20 +1,21 @@
 // The numbers and the table of a machine, which a dossier and a unit both have.
-use crate::ByteRead;
-use crate::CountRead;
 use crate::Sizes;
-use crate::Step;
-use crate::steps::byte_at;
-use crate::steps::count_at;
-use crate::steps::output_at;
-use crate::steps::wide;
 use rules::Fault;
 use rules::MOST_INPUTS;
 use rules::MOST_STATES;
+use steps::ByteRead;
+use steps::CountRead;
+use steps::Step;
+use steps::byte_at;
+use steps::count_at;
+use steps::output_at;
+use steps::wide;
 ghost use mathlib.Core.Path.{_≡_};
 ghost use lib.ListN.{drop};
 ghost use Rattle.rules.specs.Sizes.{counts};
 ghost use Rattle.rules.specs.Reading.{many, entry, table};
-ghost use Rattle.parts.specs.Steps.{byteRead, step, number, sizesRead, inputsAndStates, sizes};
+ghost use Rattle.steps.specs.Steps.{byteRead, step};
+ghost use Rattle.parts.specs.Numbers.{sizesRead, number, inputsAndStates, sizes};
 
 fn in_range(most: u8, number: u8) -> bool
     ensures { λ r. ⌜ r ≡ counts most number ⌝ }

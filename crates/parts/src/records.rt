@@ -1,14 +1,14 @@
 // The records of a sheet.
-use crate::ByteRead;
-use crate::Step;
-use crate::steps::outputs_at;
-use crate::words::inputs_at;
-use crate::words::length_at;
 use rules::MOST_TEST_WORD;
+use steps::ByteRead;
+use steps::Step;
+use steps::inputs_at;
+use steps::length_at;
+use steps::outputs_at;
 ghost use mathlib.Core.Path.{_≡_};
 ghost use lib.ListN.{drop};
 ghost use Rattle.rules.specs.Reading.{many, sheetRecord};
-ghost use Rattle.parts.specs.Steps.{step};
+ghost use Rattle.steps.specs.Steps.{step};
 
 // A word, then as many outputs as it has inputs.
 fn record_at(bytes: &[u8], inputs: u8, p: usize) -> Step

@@ -2,13 +2,13 @@
 use crate::UnitRead;
 use crate::UnitShape;
 use parts::Sizes;
-use parts::Step;
 use parts::sizes_at;
 use parts::table_at;
 use rules::Fault;
 use rules::File;
 use rules::MOST_UNIT_BYTES;
 use rules::Refusal;
+use steps::Step;
 ghost use mathlib.Core.Path.{_≡_};
 ghost use lib.ListN.{drop};
 ghost use Rattle.rules.specs.Operations.{readUnit};

@@ -1,5 +1,6 @@
 // The line of a judged sheet (docs/LINES.md): AGREES, DEVIATES with the test and both outputs, or a refusal.
 use checker::accept;
+use collator::same_word;
 use judge::Examined;
 use judge::examine_both;
 use line::Line;
@@ -17,7 +18,6 @@ use refusing::refused_line;
 use rules::Output;
 use walker::record_end;
 use walker::recorded_output;
-use walker::same_word;
 use walker::word_length;
 use wording::plain_line;
 use writer::add_decimal;

@@ -1,5 +1,5 @@
-// Words and tables where they stand in the bytes of a file: words compared, entries looked up, words walked. A golden
-// state, a unit state, an input and an output are four sorts, so the look-ups of golden and unit are two sets of functions.
+// Words and tables where they stand in the bytes of a file: entries looked up, words walked. A golden state, a unit state, an
+// input and an output are four sorts, so the look-ups of golden and unit are two sets of functions.
 
 use rules::GoldenState;
 use rules::Input;
@@ -9,9 +9,8 @@ ghost use mathlib.Core.Path.{_≡_};
 ghost use Prim.Native.Nat.{_+_, _*_, _≤_, _<_};
 ghost use lib.Dec.{eqb};
 ghost use lib.ListN.{length, getD};
-ghost use Rattle.rules.specs.Words.{same, begins, byInputs};
+ghost use Rattle.rules.specs.Words.{same};
 ghost use Rattle.rules.specs.Machines.{after, answer, answerFrom};
-ghost use Rattle.rules.specs.Operations.{firstDifference};
 ghost use Rattle.reader.specs.Places.{outputWidth, entryWidth, outputAt, outputsAt, machineAt, wordAt, afterWord, afterRecord, TableAt, WordAt};
 ghost use Rattle.walker.specs.Walks.{Whole, differAt};
 
@@ -47,72 +46,12 @@ pub fn word_length(bytes: &[u8], word: usize) -> usize
 }
 
 // The input that the word at a place has at a step, as a byte.
-fn input_byte(bytes: &[u8], word: usize, step: usize) -> u8
+pub fn input_byte(bytes: &[u8], word: usize, step: usize) -> u8
     requires { ⌜ Whole (now bytes) word ⌝ }
     requires { ⌜ step < length (wordAt (now bytes) word) ⌝ }
     ensures { λ r. ⌜ r ≡ getD (wordAt (now (bytes .entry)) word) step 0 ⌝ }
 {
     bytes[word + 1 + step]
-}
-
-// The step, from 0, at which two words part: the first at which they have different inputs, or where the shorter one ends.
-fn parting(one: &[u8], p: usize, other: &[u8], q: usize) -> usize
-    requires { ⌜ Whole (now one) p ⌝ }
-    requires { ⌜ Whole (now other) q ⌝ }
-    ensures { λ r. ⌜ r ≡ firstDifference (wordAt (now (one .entry)) p) (wordAt (now (other .entry)) q) ⌝ }
-{
-    let n = word_length(one, p);
-    let m = word_length(other, q);
-    let mut step = 0;
-    while step < n {
-        if m <= step {
-            return step;
-        }
-        if input_byte(one, p, step) != input_byte(other, q, step) {
-            return step;
-        }
-        step += 1;
-    }
-    step
-}
-
-// Whether two words are the same.
-pub fn same_word(one: &[u8], p: usize, other: &[u8], q: usize) -> bool
-    requires { ⌜ Whole (now one) p ⌝ }
-    requires { ⌜ Whole (now other) q ⌝ }
-    ensures { λ r. ⌜ r ≡ same (wordAt (now (one .entry)) p) (wordAt (now (other .entry)) q) ⌝ }
-{
-    let n = word_length(one, p);
-    let m = word_length(other, q);
-    if n != m {
-        return false;
-    }
-    parting(one, p, other, q) == n
-}
-
-// Whether the word at p in one is the word at q in other, or a beginning of it.
-pub fn begins_word(one: &[u8], p: usize, other: &[u8], q: usize) -> bool
-    requires { ⌜ Whole (now one) p ⌝ }
-    requires { ⌜ Whole (now other) q ⌝ }
-    ensures { λ r. ⌜ r ≡ begins (wordAt (now (one .entry)) p) (wordAt (now (other .entry)) q) ⌝ }
-{
-    parting(one, p, other, q) == word_length(one, p)
-}
-
-// Whether the word at p in one comes before the word at q in other by inputs.
-pub fn comes_before(one: &[u8], p: usize, other: &[u8], q: usize) -> bool
-    requires { ⌜ Whole (now one) p ⌝ }
-    requires { ⌜ Whole (now other) q ⌝ }
-    ensures { λ r. ⌜ r ≡ byInputs (wordAt (now (one .entry)) p) (wordAt (now (other .entry)) q) ⌝ }
-{
-    let step = parting(one, p, other, q);
-    if step == word_length(other, q) {
-        return false;
-    }
-    if step == word_length(one, p) {
-        return true;
-    }
-    input_byte(one, p, step) < input_byte(other, q, step)
 }
 
 // The input that the word at a place has at a step.
