@@ -20,8 +20,8 @@ use Rattle.reader.specs.Shapes.{dossierShape, dossierRead}
 use Rattle.reader.proofs.Held.{dossier-stands, tests-place}
 use Rattle.soundness.specs.Lent.{soundDossier}
 use Rattle.soundness.proofs.Behind.{left-dossier, left-refused}
-use Rattle.copyist.specs.Ready.{Buildable}
-use Rattle.copyist.proofs.Promised.{refused}
+use Rattle.builder_copyist.specs.Ready.{Buildable}
+use Rattle.builder_copyist.proofs.Promised.{refused}
 
 -- numbers that are bytes one by one are bytes
 bytes-of : (s : List ℕ) → ((i : ℕ) → getD s i 0 < 256) → Bytes s

@@ -1,19 +1,19 @@
 // The answers of build (document 01, refusals 1 to 10 and 17).
-use branches::Grown;
-use copyist::OVER_SIZE;
-use copyist::build_planted;
-use filing::node_bytes;
-use filing::node_links;
-use grower::grow_needed;
+use builder_branches::Grown;
+use builder_copyist::OVER_SIZE;
+use builder_copyist::build_planted;
+use builder_grower::grow_needed;
 use reader::DossierRead;
 use reader::DossierShape;
 use rules::Built;
 use rules::Refusal;
 use soundness::read_sound;
+use trie_filing::node_bytes;
+use trie_filing::node_links;
 ghost use mathlib.Core.Path.{_≡_};
 ghost use lib.ListN.{length};
 ghost use Rattle.rules.specs.Promises.{BuildPromise};
-ghost use Rattle.copyist.specs.Ready.{Buildable};
+ghost use Rattle.builder_copyist.specs.Ready.{Buildable};
 
 // Over arrays with a place for each node. Where the needed words have more nodes, their bytes are over the size too.
 fn build_in(

@@ -1,14 +1,14 @@
 // The bureau's program: `check D`, `build D OUT`, `run D U`, `compare D U`, `judge D S` and `cost D`, with the names of
 // files. It reads them, asks for the line of the operation, and prints it (docs/LINES.md).
+use bureau_lines::build_line;
+use bureau_lines::check_line;
+use bureau_lines::compare_line;
+use bureau_lines::cost_line;
+use bureau_lines::trial_line;
+use bureau_sheets::judge_line;
 use libc::STDOUT_FILENO;
 use line::Line;
 use rules::MOST_DOSSIER_BYTES;
-use ruling::judge_line;
-use wording::build_line;
-use wording::check_line;
-use wording::compare_line;
-use wording::cost_line;
-use wording::trial_line;
 ghost use mathlib.Core.Path.{_≡_};
 ghost use Prim.Native.Nat.{_≤_};
 ghost use lib.ListN.{length};

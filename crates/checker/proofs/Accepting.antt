@@ -21,7 +21,7 @@ use Rattle.soundness.specs.declared.Finding.the-variants.{Fine, Refused}
 use Rattle.soundness.specs.Lent.{Lent, soundOf, soundDossier, findingOf}
 use Rattle.soundness.proofs.Soundness.{lent-of}
 use Rattle.soundness.proofs.Behind.{left-dossier, left-refused}
-use Rattle.searcher.specs.Blocks.{enoughOf}
+use Rattle.checker_search.specs.Blocks.{enoughOf}
 use Rattle.checker.specs.Accepted.{AcceptedAt}
 
 -- what a finding says of its outcome

@@ -1,5 +1,5 @@
 // The check of a dossier (document 01, refusals 1 to 11).
-use enough::find_lacking;
+use checker_enough::find_lacking;
 use reader::DossierRead;
 use rules::Checked;
 use soundness::Finding;

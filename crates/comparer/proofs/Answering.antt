@@ -27,12 +27,12 @@ use Rattle.reader.specs.Places.{machineAt}
 use Rattle.reader.proofs.Held.{dossier-held, dossier-not-held, unit-held, unit-not-held}
 use Rattle.theory.specs.Machines.{golden-complete}
 use Rattle.theory.specs.Compare.{equal-none, telling-some}
-use Rattle.pairs.specs.declared.Sides.{Sides}
-use Rattle.teller.specs.declared.Found.{Found}
-use Rattle.teller.specs.declared.Found.the-variants.{Nowhere, At}
-use Rattle.pairs.specs.Pairs.{goldenAt, unitAt, SidesAt}
-use Rattle.pairs.specs.Queue.{wordTo}
-use Rattle.teller.specs.Search.{Tells, FoundOf}
+use Rattle.comparer_pairs.specs.declared.Sides.{Sides}
+use Rattle.comparer_search.specs.declared.Found.{Found}
+use Rattle.comparer_search.specs.declared.Found.the-variants.{Nowhere, At}
+use Rattle.comparer_pairs.specs.Pairs.{goldenAt, unitAt, SidesAt}
+use Rattle.comparer_pairs.specs.Queue.{wordTo}
+use Rattle.comparer_search.specs.Search.{Tells, FoundOf}
 use Rattle.comparer.specs.Found.{FirstOrNone, Answers, AnswersFirst, Stand}
 
 -- what the search found

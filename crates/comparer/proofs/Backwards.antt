@@ -12,9 +12,9 @@ use Rattle.rules.specs.declared.Refusal.the-variants.{NoRoom}
 use Rattle.rules.specs.declared.Compared.the-variants.{Differs, Refused}
 use Rattle.rules.specs.Words.{Word}
 use Rattle.rules.specs.Operations.{overwritten}
-use Rattle.pairs.specs.Queue.{parentAt, inputAt, wordTo, Falls}
+use Rattle.comparer_pairs.specs.Queue.{parentAt, inputAt, wordTo, Falls}
 use Rattle.comparer.specs.Found.{Answers}
-use Rattle.pairs.proofs.Spelled.{word-start, word-next, word-short}
+use Rattle.comparer_pairs.proofs.Spelled.{word-start, word-next, word-short}
 
 -- writing a word is writing its last input, and then the others
 pub overwritten-last : (v : Word) (i : ℕ) (out : List ℕ) → length v < length out → overwritten v (set out (length v) i) ≡ overwritten (v ++ (i ∷ [])) out

@@ -1,7 +1,9 @@
 // The comparison (document 01, "Compare", and its refusals: the dossier's 1 to 6, the unit's 1 to 6, 15, 17).
 use crate::spelling::write_telling;
-use pairs::Sides;
-use pairs::no_entries;
+use comparer_pairs::Sides;
+use comparer_pairs::no_entries;
+use comparer_search::Found;
+use comparer_search::search;
 use reader::DossierRead;
 use reader::DossierShape;
 use reader::UnitRead;
@@ -10,10 +12,8 @@ use reader::read_dossier;
 use reader::read_unit;
 use rules::Compared;
 use rules::Refusal;
-use teller::Found;
-use teller::search;
 ghost use Rattle.rules.specs.Promises.{ComparePromise};
-ghost use Rattle.pairs.specs.Pairs.{goldenAt, unitAt, SidesAt};
+ghost use Rattle.comparer_pairs.specs.Pairs.{goldenAt, unitAt, SidesAt};
 ghost use Rattle.comparer.specs.Found.{AnswersFirst, Stand};
 
 // The answer for two machines over the same inputs. EQUAL writes nothing.

@@ -1,6 +1,6 @@
 // The telling word, read back through the queue.
-use pairs::input_at;
-use pairs::parent_at;
+use comparer_pairs::input_at;
+use comparer_pairs::parent_at;
 use rules::Compared;
 use rules::Input;
 use rules::Refusal;
@@ -10,8 +10,8 @@ ghost use mathlib.Core.Option.{some};
 ghost use Prim.Native.Nat.{_+_, _≤_, _<_};
 ghost use lib.ListN.{length};
 ghost use Rattle.rules.specs.Operations.{overwritten};
-ghost use Rattle.pairs.specs.Pairs.{pairs};
-ghost use Rattle.pairs.specs.Queue.{wordTo, Falls};
+ghost use Rattle.comparer_pairs.specs.Pairs.{pairs};
+ghost use Rattle.comparer_pairs.specs.Queue.{wordTo, Falls};
 ghost use Rattle.comparer.specs.Found.{Answers};
 
 // How many inputs lead to an entry of the queue.

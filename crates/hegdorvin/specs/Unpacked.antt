@@ -19,7 +19,7 @@ use Rattle.rules.specs.Operations.{Part, partOf, judgedPart}
 use Rattle.rules.specs.Promises.{CheckPromise, BuildPromise, RunPromise, ComparePromise, JudgePromise, JudgeWordPromise, CostPromise}
 use Rattle.theory.specs.Answers.{value, checkSaid, check-said, buildSaid, build-said, runSaid, run-said, compareSaid, compare-said, judgeSaid, judge-said, costSaid, cost-said}
 use Rattle.theory.specs.Bounds.{Fits, PlainFits, MissingFits, check-fits, build-fits, run-fits, compare-fits, judge-fields-fit, judged-part-fits, cost-fits}
-use Rattle.packing.specs.Packed.{packedPlain, packedMissing, packed}
+use Rattle.hegdorvin_packing.specs.Packed.{packedPlain, packedMissing, packed}
 
 -- the values in a packed MISSING, in the order of the paper
 abbrev pub missingValues : ℕ → List ℕ

@@ -2,22 +2,22 @@
 use builder::build;
 use checker::check;
 use comparer::compare;
+use hegdorvin_packing::built;
+use hegdorvin_packing::checked;
+use hegdorvin_packing::compared;
+use hegdorvin_packing::costed;
+use hegdorvin_packing::judged;
+use hegdorvin_packing::part;
+use hegdorvin_packing::ran;
 use judge::failing_part;
 use judge::judge;
-use packing::built;
-use packing::checked;
-use packing::compared;
-use packing::costed;
-use packing::judged;
-use packing::part;
-use packing::ran;
 use runner::cost;
 use runner::run;
 ghost use mathlib.Core.Path.{_≡_};
 ghost use mathlib.Core.List.{[], _∷_};
 ghost use Rattle.rules.specs.Answers.{well, checkSays, buildSays, runSays, compareSays, judgeSays, costSays};
 ghost use Rattle.rules.specs.Operations.{checkAnswer, buildAnswer, buildOutput, runAnswer, compareAnswer, compareOutput, judgeAnswer, judgedPart, costAnswer};
-ghost use Rattle.packing.specs.Packed.{packed};
+ghost use Rattle.hegdorvin_packing.specs.Packed.{packed};
 
 #[no_mangle]
 pub extern "C" fn hegdorvin_check(dossier: &[u8]) -> u64

@@ -35,16 +35,16 @@ use Rattle.walker.proofs.Words.{word-length}
 use Rattle.soundness.specs.declared.Finding.{Finding}
 use Rattle.soundness.specs.declared.Finding.the-variants.{Fine, Refused}
 use Rattle.soundness.specs.Lent.{findingOf}
-use Rattle.verdict.specs.declared.Deviation.{Deviation}
-use Rattle.verdict.specs.declared.Deviation.the-variants as deviation
-use Rattle.verdict.specs.Deviations.{Served, deviationOf}
+use Rattle.judge_verdict.specs.declared.Deviation.{Deviation}
+use Rattle.judge_verdict.specs.declared.Deviation.the-variants as deviation
+use Rattle.judge_verdict.specs.Deviations.{Served, deviationOf}
 use Rattle.judge.specs.declared.Examined.{Examined}
 use Rattle.judge.specs.declared.Examined.the-variants as examined
-use Rattle.records.specs.Filed.{Filed}
-use Rattle.pairing.specs.Lent.{testsIn, recordsIn}
+use Rattle.judge_records.specs.Filed.{Filed}
+use Rattle.judge_pairing.specs.Lent.{testsIn, recordsIn}
 use Rattle.judge.specs.Verdicts.{Handed, Matched, examination, examinedOf}
-use Rattle.records.proofs.Standing.{word-here, word-place}
-use Rattle.records.proofs.Looking.{word-of-record}
+use Rattle.judge_records.proofs.Standing.{word-here, word-place}
+use Rattle.judge_records.proofs.Looking.{word-of-record}
 
 -- Where the inputs of a test stand.
 module _ (s : List ℕ) (d : DossierData) (stands : DossierStands s (dossierShape d) d) (i : ℕ) (t : Word) (at : At (d .tests) i t) where

@@ -13,8 +13,8 @@ use Rattle.reader.specs.Shapes.{dossierShape}
 use Rattle.reader.specs.Standing.{DossierStands}
 use Rattle.judge.specs.declared.Examined.{Examined}
 use Rattle.judge.specs.declared.Examined.the-variants as examined
-use Rattle.records.specs.Filed.{Filed}
-use Rattle.pairing.specs.Lent.{SheetLent, testsIn, recordsIn}
+use Rattle.judge_records.specs.Filed.{Filed}
+use Rattle.judge_pairing.specs.Lent.{SheetLent, testsIn, recordsIn}
 
 -- an accepted dossier and a well-formed sheet, in their bytes
 pub record Handed (s : List ℕ) (x : DossierShape) (t : List ℕ) (y : SheetShape) : Type 0 where

@@ -5,8 +5,8 @@ use mathlib.Core.Path.{_≡_, ap, _∙_}
 use mathlib.Core.List.{List}
 use lib.ListN.{length, drop, replicate, length-replicate}
 use lib.Seq.{take-at, drop-at}
-use Rattle.writer.specs.Puts.{wrote, Puts}
-use Rattle.writer.proofs.Writing.{wrote-length}
+use Rattle.line_writer.specs.Puts.{wrote, Puts}
+use Rattle.line_writer.proofs.Writing.{wrote-length}
 use Rattle.line.specs.Lines.{lineRoom, Says}
 
 pub line-given : (said start left : List ℕ) (q : ℕ) → start ≡ replicate lineRoom 0 → Puts start 0 said left q → Says said (record { bytes = left; length = q })

@@ -11,8 +11,8 @@ use Rattle.rules.specs.declared.Refusal.the-variants.{Malformed, NoEmptyWord, U
 use Rattle.rules.specs.Answers.{numberOf}
 use Rattle.rules.specs.Line.{text, decimal, letter, spot, refusalLine}
 use Rattle.rules.proofs.Refusal.{the-type}
-use Rattle.writer.specs.Puts.{Puts, Closes}
-use Rattle.writer.proofs.Lines.{feed-closes, next-closes, first-closes}
+use Rattle.line_writer.specs.Puts.{Puts, Closes}
+use Rattle.line_writer.proofs.Lines.{feed-closes, next-closes, first-closes}
 
 -- all refusals but the first case of the enum
 abbrev others : List ℕ

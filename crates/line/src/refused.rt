@@ -1,18 +1,18 @@
 // The line of a refusal: its number, and for 1 to 6 the file's letter and the place.
+use line_writer::add_decimal;
+use line_writer::put_byte;
+use line_writer::put_line_feed;
+use line_writer::put_text;
 use rules::Fault;
 use rules::File;
 use rules::Refusal;
-use writer::add_decimal;
-use writer::put_byte;
-use writer::put_line_feed;
-use writer::put_text;
 ghost use mathlib.Core.Path.{_≡_};
 ghost use mathlib.Core.List.{[], _∷_};
 ghost use Prim.Native.Nat.{_+_, _≤_};
 ghost use lib.ListN.{length};
 ghost use Rattle.rules.specs.Answers.{faultNumber, numberOf};
 ghost use Rattle.rules.specs.Line.{decimal, letter, refusalLine};
-ghost use Rattle.writer.specs.Puts.{Puts, Closes, mostDigits};
+ghost use Rattle.line_writer.specs.Puts.{Puts, Closes, mostDigits};
 ghost use Rattle.line.specs.Lines.{lineRoom};
 
 fn fault_number(fault: Fault) -> usize

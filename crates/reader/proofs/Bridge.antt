@@ -20,10 +20,10 @@ use Rattle.rules.specs.Reading.{Got, got, faulty, Reader, then, byte, judged, c
 use Rattle.theory.specs.Readers.{reads-byte, reads-count, reads-many}
 use Rattle.theory.specs.Sections.{reads-judged-byte, reads-judged-count, reads-word, reads-record}
 use Rattle.reader.specs.Places.{entryWidth, outputAt, outputsAt, entriesAt, wordAt, afterWord, wordsAt, afterRecord, recordsAt, TableAt, WordAt, WordsAt, RecordsAt}
-use Rattle.steps.specs.Steps.{input, wordLength}
-use Rattle.steps.proofs.Laws.{Kept, Keeps, keeps, kept-output, byte-here, byte-none}
-use Rattle.steps.proofs.Sections.{many-length, words-length}
-use Rattle.parts.proofs.Parts.{kept-entry}
+use Rattle.reader_steps.specs.Steps.{input, wordLength}
+use Rattle.reader_steps.proofs.Laws.{Kept, Keeps, keeps, kept-output, byte-here, byte-none}
+use Rattle.reader_steps.proofs.Sections.{many-length, words-length}
+use Rattle.reader_parts.proofs.Parts.{kept-entry}
 
 -- what a reading that went well was made of
 pub then-got : {A B : Type 0} (s : List ℕ) (x : Got A) (next : A → Reader B) (b : B) (q : ℕ) (t : List ℕ) → Kept s x → then x next ≡ got b q t

@@ -34,9 +34,9 @@ use Rattle.reader.specs.Places.{entriesAt, wordsAt, recordsAt, afterWord
 use Rattle.reader.specs.Chains.{boundNumber}
 use Rattle.reader.specs.Shapes.{dossierTable, unitTablePlace, coverPlace, separatingPlace, testsPlace, dossierShape, dossierRead, unitShape, unitRead, sheetShape, sheetRead}
 use Rattle.reader.specs.Standing.{DossierStands, UnitStands, SheetStands}
-use Rattle.steps.specs.Steps.{countWidth}
-use Rattle.steps.proofs.Laws.{keeps}
-use Rattle.parts.specs.Numbers.{number}
+use Rattle.reader_steps.specs.Steps.{countWidth}
+use Rattle.reader_steps.proofs.Laws.{keeps}
+use Rattle.reader_parts.specs.Numbers.{number}
 use Rattle.reader.proofs.Joined.{place-count, place-number, place-table, place-words}
 use Rattle.reader.proofs.Bridge.{from-got, words-got, table-got, records-got, count-got}
 

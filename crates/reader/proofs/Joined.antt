@@ -21,16 +21,16 @@ use Rattle.rules.specs.Reading.{Got, got, faulty, Reader, then, byte, judged, c
 use Rattle.rules.specs.Operations.{opened, readFile, readDossier, readUnit, readSheet}
 use Rattle.theory.specs.Readers.{reads-count, reads-many}
 use Rattle.theory.specs.Sections.{reads-judged-byte, reads-judged-count, reads-words, reads-table, reads-record}
-use Rattle.steps.specs.declared.Step.{Step}
-use Rattle.steps.specs.declared.Step.the-variants.{Next, Stopped}
-use Rattle.steps.specs.declared.ByteRead.{ByteRead}
-use Rattle.steps.specs.declared.ByteRead.the-variants.{Byte, Stopped as ByteStopped}
-use Rattle.steps.specs.declared.CountRead.{CountRead}
-use Rattle.steps.specs.declared.CountRead.the-variants.{Count, Stopped as CountStopped}
-use Rattle.steps.specs.declared.Section.{Section}
-use Rattle.steps.specs.declared.Section.the-variants.{Words, Stopped as SectionStopped}
-use Rattle.parts.specs.declared.Sizes.{Sizes}
-use Rattle.parts.specs.declared.Sizes.the-variants.{Are, Stopped as SizesStopped}
+use Rattle.reader_steps.specs.declared.Step.{Step}
+use Rattle.reader_steps.specs.declared.Step.the-variants.{Next, Stopped}
+use Rattle.reader_steps.specs.declared.ByteRead.{ByteRead}
+use Rattle.reader_steps.specs.declared.ByteRead.the-variants.{Byte, Stopped as ByteStopped}
+use Rattle.reader_steps.specs.declared.CountRead.{CountRead}
+use Rattle.reader_steps.specs.declared.CountRead.the-variants.{Count, Stopped as CountStopped}
+use Rattle.reader_steps.specs.declared.Section.{Section}
+use Rattle.reader_steps.specs.declared.Section.the-variants.{Words, Stopped as SectionStopped}
+use Rattle.reader_parts.specs.declared.Sizes.{Sizes}
+use Rattle.reader_parts.specs.declared.Sizes.the-variants.{Are, Stopped as SizesStopped}
 use Rattle.reader.specs.declared.dossier.Numbers.{Numbers}
 use Rattle.reader.specs.declared.dossier.WordList.{WordList}
 use Rattle.reader.specs.declared.DossierShape.{DossierShape}
@@ -42,11 +42,11 @@ use Rattle.reader.specs.declared.SheetShape.{SheetShape}
 use Rattle.reader.specs.declared.SheetRead.{SheetRead}
 use Rattle.reader.specs.declared.SheetRead.the-variants.{Holds as SheetHolds, Refused as SheetRefused}
 use Rattle.reader.specs.Shapes.{unitTablePlace, coverPlace, separatingPlace, testsPlace, dossierShape, dossierRead, unitShape, unitRead, sheetShape, sheetRead}
-use Rattle.steps.specs.Steps.{step, byteRead, countRead, section}
-use Rattle.parts.specs.Numbers.{sizesRead, number, inputsAndStates, sizes}
+use Rattle.reader_steps.specs.Steps.{step, byteRead, countRead, section}
+use Rattle.reader_parts.specs.Numbers.{sizesRead, number, inputsAndStates, sizes}
 use Rattle.reader.specs.Chains.{boundNumber, dossierPlaced, unitPlaced, sheetPlaced, wordsFrom, shapeOf, dossierFromTests, dossierFromSeparating, dossierFromCover, dossierFromTable, dossierFromBound, dossierPlaces, unitFromTable, unitPlaces, sheetFromRecords, sheetPlaces}
-use Rattle.steps.proofs.Laws.{Kept, keeps, then-kept, was-byte, was-count, was-read, byte-stopped, count-stopped, step-stopped}
-use Rattle.steps.proofs.Sections.{count-place}
+use Rattle.reader_steps.proofs.Laws.{Kept, keeps, then-kept, was-byte, was-count, was-read, byte-stopped, count-stopped, step-stopped}
+use Rattle.reader_steps.proofs.Sections.{count-place}
 
 -- the end of a file
 module _ {A : Type 0} (x : A) (s : List ℕ) (p : ℕ) where

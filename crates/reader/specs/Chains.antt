@@ -9,8 +9,8 @@ use Rattle.rules.specs.declared.Refusal.the-variants.{Malformed}
 use Rattle.rules.specs.Sizes.{mostSetWord, mostTestWord, boundGood}
 use Rattle.rules.specs.Words.{Word}
 use Rattle.rules.specs.Reading.{Got, got, faulty, Reader, then, _>>=_, _>>_, byte, judged, count, many, table, words, sheetRecord, ending}
-use Rattle.steps.specs.Steps.{countWidth}
-use Rattle.parts.specs.Numbers.{sizes}
+use Rattle.reader_steps.specs.Steps.{countWidth}
+use Rattle.reader_parts.specs.Numbers.{sizes}
 use Rattle.reader.specs.declared.DossierShape.{DossierShape}
 use Rattle.reader.specs.declared.DossierRead.{DossierRead}
 use Rattle.reader.specs.declared.DossierRead.the-variants.{Holds as DossierHolds, Refused as DossierRefused}

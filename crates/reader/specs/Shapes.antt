@@ -5,7 +5,7 @@ use mathlib.Core.List.{List, flatMap}
 use lib.ListN.{length}
 use Rattle.rules.specs.Files.{DossierData, UnitData, SheetRecord, entryBytes, wordBytes}
 use Rattle.rules.specs.Operations.{Outcome, fine, refuse}
-use Rattle.steps.specs.Steps.{countWidth}
+use Rattle.reader_steps.specs.Steps.{countWidth}
 use Rattle.reader.specs.declared.DossierShape.{DossierShape}
 use Rattle.reader.specs.declared.DossierRead.{DossierRead}
 use Rattle.reader.specs.declared.DossierRead.the-variants.{Holds as DossierHolds, Refused as DossierRefused}

@@ -1,13 +1,13 @@
 // The byte for m of a dossier.
+use reader_steps::ByteRead;
+use reader_steps::byte_at;
 use rules::Fault;
 use rules::MOST_ADDED_STATES;
 use rules::MOST_STATES;
-use steps::ByteRead;
-use steps::byte_at;
 ghost use mathlib.Core.Path.{_≡_};
 ghost use lib.ListN.{drop};
 ghost use Rattle.rules.specs.Sizes.{boundOf, boundGood};
-ghost use Rattle.steps.specs.Steps.{byteRead};
+ghost use Rattle.reader_steps.specs.Steps.{byteRead};
 ghost use Rattle.reader.specs.Chains.{boundNumber};
 
 // The bound that the byte for m stands for: 0 is the default, as many states as the golden has.

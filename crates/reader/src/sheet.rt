@@ -1,14 +1,14 @@
 // The sheet: records of a word and its outputs, over the inputs of the dossier that it belongs to.
 use crate::SheetRead;
 use crate::SheetShape;
-use parts::records_at;
+use reader_parts::records_at;
+use reader_steps::CountRead;
+use reader_steps::Step;
+use reader_steps::count_at;
 use rules::Fault;
 use rules::File;
 use rules::MOST_SHEET_BYTES;
 use rules::Refusal;
-use steps::CountRead;
-use steps::Step;
-use steps::count_at;
 ghost use mathlib.Core.Path.{_≡_};
 ghost use lib.ListN.{drop};
 ghost use Rattle.rules.specs.Operations.{readSheet};

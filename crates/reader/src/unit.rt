@@ -1,14 +1,14 @@
 // The unit: numbers and a table.
 use crate::UnitRead;
 use crate::UnitShape;
-use parts::Sizes;
-use parts::sizes_at;
-use parts::table_at;
+use reader_parts::Sizes;
+use reader_parts::sizes_at;
+use reader_parts::table_at;
+use reader_steps::Step;
 use rules::Fault;
 use rules::File;
 use rules::MOST_UNIT_BYTES;
 use rules::Refusal;
-use steps::Step;
 ghost use mathlib.Core.Path.{_≡_};
 ghost use lib.ListN.{drop};
 ghost use Rattle.rules.specs.Operations.{readUnit};

@@ -22,7 +22,7 @@ use Rattle.reader.specs.Standing.{UnitStands}
 use Rattle.reader.proofs.Held.{unit-held, unit-not-held}
 use Rattle.checker.specs.Accepted.{AcceptedAt}
 use Rattle.checker.proofs.Accepting.{not-accepted}
-use Rattle.trials.specs.Trials.{TrialAt}
+use Rattle.runner_trials.specs.Trials.{TrialAt}
 
 -- what `accept` answered
 pub run-unchecked : (s : List ℕ) (r : DossierRead) → r ≡ dossierRead (check s) → (t : List ℕ) (f : Refusal) → r ≡ DossierRefused f → RunPromise s t (RunRefused f)

@@ -7,7 +7,7 @@ use reader::bound_of;
 use reader::read_unit;
 use rules::Ran;
 use rules::Refusal;
-use trials::try_tests;
+use runner_trials::try_tests;
 ghost use mathlib.Core.Path.{_≡_};
 ghost use Rattle.rules.specs.Operations.{runAnswer};
 ghost use Rattle.rules.specs.Promises.{RunPromise};

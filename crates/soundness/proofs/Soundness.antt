@@ -26,16 +26,16 @@ use Rattle.reader.specs.Turns.{words-count}
 use Rattle.reader.specs.Shapes.{dossierShape, dossierRead}
 use Rattle.reader.proofs.Held.{dossier-held, dossier-not-held}
 use Rattle.theory.specs.Outcomes.{settled}
-use Rattle.reach.specs.declared.StateFound.{StateFound}
-use Rattle.reach.specs.declared.StateFound.the-variants.{Nowhere, At}
-use Rattle.apart.specs.declared.PairFound.{PairFound}
-use Rattle.apart.specs.declared.PairFound.the-variants.{Nowhere as NoPair, At as Pair}
+use Rattle.soundness_reach.specs.declared.StateFound.{StateFound}
+use Rattle.soundness_reach.specs.declared.StateFound.the-variants.{Nowhere, At}
+use Rattle.soundness_apart.specs.declared.PairFound.{PairFound}
+use Rattle.soundness_apart.specs.declared.PairFound.the-variants.{Nowhere as NoPair, At as Pair}
 use Rattle.soundness.specs.declared.Finding.{Finding}
 use Rattle.soundness.specs.declared.Finding.the-variants.{Fine, Refused}
 use Rattle.soundness.specs.Lent.{Lent, soundOf, soundDossier, findingOf}
-use Rattle.reach.specs.Reached.{lacks, stateFound}
-use Rattle.apart.specs.Separating.{pairFound, goldenAt, separatorsAt, alike, SeparatingAt}
-use Rattle.reach.proofs.Marks.{state-at, state-nowhere}
+use Rattle.soundness_reach.specs.Reached.{lacks, stateFound}
+use Rattle.soundness_apart.specs.Separating.{pairFound, goldenAt, separatorsAt, alike, SeparatingAt}
+use Rattle.soundness_reach.proofs.Marks.{state-at, state-nowhere}
 
 pair-at : (o : Option (ℕ × ℕ)) (found : PairFound) (x y : GoldenState) → found ≡ pairFound o → found ≡ Pair x y → o ≡ some (x .0, y .0)
 pair-at none found x y e is = let z : _≡_ {A = ℕ} 0 1 = cc in absurd (omega arith)

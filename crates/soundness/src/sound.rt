@@ -1,14 +1,14 @@
 // What the refusals 7 to 10 ask of a dossier that is well formed.
 use crate::Finding;
-use apart::PairFound;
-use apart::unseparated;
-use reach::StateFound;
-use reach::has_empty_word;
-use reach::unreached;
 use reader::DossierRead;
 use reader::DossierShape;
 use reader::read_dossier;
 use rules::Refusal;
+use soundness_apart::PairFound;
+use soundness_apart::unseparated;
+use soundness_reach::StateFound;
+use soundness_reach::has_empty_word;
+use soundness_reach::unreached;
 ghost use mathlib.Core.Path.{_≡_};
 ghost use Rattle.reader.specs.Shapes.{dossierRead};
 ghost use Rattle.soundness.specs.Lent.{Lent, soundOf, soundDossier, findingOf};

@@ -1,4 +1,4 @@
-use Rattle.wording.proofs.Told.{built-inside}
+use Rattle.bureau_lines.proofs.Told.{built-inside}
 use lib.Seq.{length-take-le}
 use mathlib.Core.Path.{sym}
 use borrow.Author.Needs.{needs}

@@ -1,13 +1,13 @@
 use mathlib.Core.Path.{_∙_, ap}
 use Rattle.theory.specs.Bounds.{build-fits}
-use Rattle.packing.specs.Packed.{packed}
+use Rattle.hegdorvin_packing.specs.Packed.{packed}
 use borrow.Author.Needs.{needs}
 use Rattle.hegdorvin.proofs.hegdorvin_build.Statement.{statement}
 use Rattle.hegdorvin.proofs.hegdorvin_build.Tie as tie
 use Rattle.hegdorvin.proofs.hegdorvin_build.Reads as reads
 use Rattle.hegdorvin.proofs.hegdorvin_build.Lts as lts
 use Rattle.builder.proofs.build.Reads as build-reads
-use Rattle.packing.proofs.built.Reads as built-reads
+use Rattle.hegdorvin_packing.proofs.built.Reads as built-reads
 
 build-requires : tie.Need-build-requires
 build-requires c κs = search needs

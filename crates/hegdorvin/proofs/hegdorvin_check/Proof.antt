@@ -1,13 +1,13 @@
 use mathlib.Core.Path.{_∙_, ap}
 use Rattle.theory.specs.Bounds.{check-fits}
-use Rattle.packing.specs.Packed.{packed}
+use Rattle.hegdorvin_packing.specs.Packed.{packed}
 use borrow.Author.Needs.{needs}
 use Rattle.hegdorvin.proofs.hegdorvin_check.Statement.{statement}
 use Rattle.hegdorvin.proofs.hegdorvin_check.Tie as tie
 use Rattle.hegdorvin.proofs.hegdorvin_check.Reads as reads
 use Rattle.hegdorvin.proofs.hegdorvin_check.Lts as lts
 use Rattle.checker.proofs.check.Reads as check-reads
-use Rattle.packing.proofs.checked.Reads as checked-reads
+use Rattle.hegdorvin_packing.proofs.checked.Reads as checked-reads
 
 check-requires : tie.Need-check-requires
 check-requires c κs = search needs

@@ -1,13 +1,13 @@
 use mathlib.Core.Path.{_∙_, ap}
 use Rattle.theory.specs.Bounds.{compare-fits}
-use Rattle.packing.specs.Packed.{packed}
+use Rattle.hegdorvin_packing.specs.Packed.{packed}
 use borrow.Author.Needs.{needs}
 use Rattle.hegdorvin.proofs.hegdorvin_compare.Statement.{statement}
 use Rattle.hegdorvin.proofs.hegdorvin_compare.Tie as tie
 use Rattle.hegdorvin.proofs.hegdorvin_compare.Reads as reads
 use Rattle.hegdorvin.proofs.hegdorvin_compare.Lts as lts
 use Rattle.comparer.proofs.compare.Reads as compare-reads
-use Rattle.packing.proofs.compared.Reads as compared-reads
+use Rattle.hegdorvin_packing.proofs.compared.Reads as compared-reads
 
 compare-requires : tie.Need-compare-requires
 compare-requires c κs = search needs

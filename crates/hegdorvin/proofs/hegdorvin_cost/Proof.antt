@@ -1,12 +1,12 @@
 use mathlib.Core.Path.{_∙_, ap}
 use Rattle.theory.specs.Bounds.{cost-fits}
-use Rattle.packing.specs.Packed.{packed}
+use Rattle.hegdorvin_packing.specs.Packed.{packed}
 use borrow.Author.Needs.{needs}
 use Rattle.hegdorvin.proofs.hegdorvin_cost.Statement.{statement}
 use Rattle.hegdorvin.proofs.hegdorvin_cost.Tie as tie
 use Rattle.hegdorvin.proofs.hegdorvin_cost.Reads as reads
 use Rattle.hegdorvin.proofs.hegdorvin_cost.Lts as lts
-use Rattle.packing.proofs.costed.Reads as costed-reads
+use Rattle.hegdorvin_packing.proofs.costed.Reads as costed-reads
 use Rattle.runner.proofs.cost.Reads as cost-reads
 
 cost-requires : tie.Need-cost-requires

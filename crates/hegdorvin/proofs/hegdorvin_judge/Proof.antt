@@ -1,12 +1,12 @@
 use mathlib.Core.Path.{_∙_, ap}
 use Rattle.theory.specs.Bounds.{judge-fields-fit}
-use Rattle.packing.specs.Packed.{packed}
+use Rattle.hegdorvin_packing.specs.Packed.{packed}
 use borrow.Author.Needs.{needs}
 use Rattle.hegdorvin.proofs.hegdorvin_judge.Statement.{statement}
 use Rattle.hegdorvin.proofs.hegdorvin_judge.Tie as tie
 use Rattle.hegdorvin.proofs.hegdorvin_judge.Reads as reads
 use Rattle.hegdorvin.proofs.hegdorvin_judge.Lts as lts
-use Rattle.packing.proofs.judged.Reads as judged-reads
+use Rattle.hegdorvin_packing.proofs.judged.Reads as judged-reads
 use Rattle.judge.proofs.judge.Reads as judge-reads
 
 judge-requires : tie.Need-judge-requires

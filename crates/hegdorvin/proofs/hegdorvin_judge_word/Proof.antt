@@ -2,13 +2,13 @@ use mathlib.Core.Path.{_∙_}
 use mathlib.Core.List.{[], _∷_}
 use Rattle.rules.specs.Answers.{well}
 use Rattle.theory.specs.Bounds.{judged-part-fits}
-use Rattle.packing.specs.Packed.{packed}
+use Rattle.hegdorvin_packing.specs.Packed.{packed}
 use borrow.Author.Needs.{needs}
 use Rattle.hegdorvin.proofs.hegdorvin_judge_word.Statement.{statement}
 use Rattle.hegdorvin.proofs.hegdorvin_judge_word.Tie as tie
 use Rattle.hegdorvin.proofs.hegdorvin_judge_word.Reads as reads
 use Rattle.hegdorvin.proofs.hegdorvin_judge_word.Lts as lts
-use Rattle.packing.proofs.part.Reads as part-reads
+use Rattle.hegdorvin_packing.proofs.part.Reads as part-reads
 use Rattle.judge.proofs.failing_part.Reads as failing-part-reads
 
 failing-part-requires : tie.Need-failing-part-requires

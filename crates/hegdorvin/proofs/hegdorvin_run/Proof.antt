@@ -1,12 +1,12 @@
 use mathlib.Core.Path.{_∙_, ap}
 use Rattle.theory.specs.Bounds.{run-fits}
-use Rattle.packing.specs.Packed.{packed}
+use Rattle.hegdorvin_packing.specs.Packed.{packed}
 use borrow.Author.Needs.{needs}
 use Rattle.hegdorvin.proofs.hegdorvin_run.Statement.{statement}
 use Rattle.hegdorvin.proofs.hegdorvin_run.Tie as tie
 use Rattle.hegdorvin.proofs.hegdorvin_run.Reads as reads
 use Rattle.hegdorvin.proofs.hegdorvin_run.Lts as lts
-use Rattle.packing.proofs.ran.Reads as ran-reads
+use Rattle.hegdorvin_packing.proofs.ran.Reads as ran-reads
 use Rattle.runner.proofs.run.Reads as run-reads
 
 run-requires : tie.Need-run-requires

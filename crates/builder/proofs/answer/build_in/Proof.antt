@@ -1,5 +1,5 @@
-use Rattle.copyist.proofs.Fitted.{planted, full-over}
-use Rattle.copyist.proofs.Promised.{over-promise}
+use Rattle.builder_copyist.proofs.Fitted.{planted, full-over}
+use Rattle.builder_copyist.proofs.Promised.{over-promise}
 use borrow.Author.Needs.{needs}
 use Rattle.builder.proofs.answer.build_in.Statement.{statement}
 use Rattle.builder.proofs.answer.build_in.Tie as tie

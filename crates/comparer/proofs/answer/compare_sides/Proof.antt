@@ -1,5 +1,5 @@
 use mathlib.Core.Path.{sym, _∙_}
-use Rattle.pairs.specs.Pairs.{goldenAt, unitAt}
+use Rattle.comparer_pairs.specs.Pairs.{goldenAt, unitAt}
 use Rattle.comparer.proofs.Answering.{found-at, answers-nowhere, answers-at}
 use borrow.Author.Needs.{needs}
 use Rattle.comparer.proofs.answer.compare_sides.Statement.{statement}

@@ -2,7 +2,7 @@ use native.Mathlib.Omega.{arith}
 use Prim.Native.Nat.{_+_, _≤_}
 use mathlib.Core.Path.{_≡_}
 use lib.ListN.{length}
-use Rattle.pairs.specs.Queue.{wordTo}
+use Rattle.comparer_pairs.specs.Queue.{wordTo}
 use Rattle.comparer.proofs.Backwards.{back-less, back-length, back-short, back-start}
 use Rattle.comparer.proofs.spelling.word_length.Statement.{statement}
 use Rattle.comparer.proofs.spelling.word_length.Tie as tie

@@ -1,7 +1,7 @@
 use native.Mathlib.Omega.{arith}
 use mathlib.Core.Path.{_∙_}
 use lib.ListN.{length-set}
-use Rattle.pairs.specs.Queue.{wordTo}
+use Rattle.comparer_pairs.specs.Queue.{wordTo}
 use Rattle.comparer.proofs.Backwards.{answers-no-room, answers-written}
 use borrow.Author.Needs.{needs}
 use Rattle.comparer.proofs.spelling.write_telling.Statement.{statement}

@@ -4,7 +4,7 @@ use Prim.Native.Nat.{_≤_}
 use mathlib.Core.Path.{_≡_, refl, _∙_}
 use lib.ListN.{length, length-set}
 use Rattle.rules.specs.Operations.{overwritten}
-use Rattle.pairs.specs.Queue.{wordTo}
+use Rattle.comparer_pairs.specs.Queue.{wordTo}
 use Rattle.comparer.proofs.Backwards.{back-less, back-length, back-written, back-start}
 use Rattle.comparer.proofs.spelling.write_word.Statement.{statement}
 use Rattle.comparer.proofs.spelling.write_word.Tie as tie

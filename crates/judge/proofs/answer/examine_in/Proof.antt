@@ -5,7 +5,7 @@ use Rattle.judge.proofs.answer.examine_in.Tie as tie
 use Rattle.judge.proofs.answer.examine_in.Reads as reads
 use Rattle.judge.proofs.answer.examine_in.Lts as lts
 use Rattle.judge.proofs.answer.examine_matched.Reads as examine-matched-reads
-use Rattle.pairing.proofs.pair.Reads as pair-reads
+use Rattle.judge_pairing.proofs.pair.Reads as pair-reads
 
 pair-requires : tie.Need-pair-requires
 pair-requires c κs = search needs

@@ -5,7 +5,7 @@ use Rattle.judge.proofs.answer.examine_matched.Statement.{statement}
 use Rattle.judge.proofs.answer.examine_matched.Tie as tie
 use Rattle.judge.proofs.answer.examine_matched.Reads as reads
 use Rattle.judge.proofs.answer.examine_matched.Lts as lts
-use Rattle.verdict.proofs.find_deviating.Reads as find-deviating-reads
+use Rattle.judge_verdict.proofs.find_deviating.Reads as find-deviating-reads
 use Rattle.walker.proofs.word_length.Reads as word-length-reads
 
 find-deviating-requires : tie.Need-find-deviating-requires

@@ -1,4 +1,4 @@
-use Rattle.writer.proofs.Lines.{feed-closes, next-closes}
+use Rattle.line_writer.proofs.Lines.{feed-closes, next-closes}
 use borrow.Author.Needs.{needs}
 use Rattle.line.proofs.ran.put_outputs.Statement.{statement}
 use Rattle.line.proofs.ran.put_outputs.Tie as tie

@@ -1,4 +1,4 @@
-use Rattle.writer.proofs.Lines.{next-closes, first-closes}
+use Rattle.line_writer.proofs.Lines.{next-closes, first-closes}
 use borrow.Author.Needs.{needs}
 use Rattle.line.proofs.ran.write_fails.Statement.{statement}
 use Rattle.line.proofs.ran.write_fails.Tie as tie

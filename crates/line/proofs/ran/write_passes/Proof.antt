@@ -1,4 +1,4 @@
-use Rattle.writer.proofs.Lines.{feed-closes, next-closes, first-closes}
+use Rattle.line_writer.proofs.Lines.{feed-closes, next-closes, first-closes}
 use borrow.Author.Needs.{needs}
 use Rattle.line.proofs.ran.write_passes.Statement.{statement}
 use Rattle.line.proofs.ran.write_passes.Tie as tie

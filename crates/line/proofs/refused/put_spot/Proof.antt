@@ -1,5 +1,5 @@
-use Rattle.writer.proofs.Lines.{feed-closes, next-closes}
-use Rattle.writer.proofs.Writing.{puts-then}
+use Rattle.line_writer.proofs.Lines.{feed-closes, next-closes}
+use Rattle.line_writer.proofs.Writing.{puts-then}
 use borrow.Author.Needs.{needs}
 use Rattle.line.proofs.refused.put_spot.Statement.{statement}
 use Rattle.line.proofs.refused.put_spot.Tie as tie

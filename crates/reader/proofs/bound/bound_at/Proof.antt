@@ -1,5 +1,5 @@
-use Rattle.steps.proofs.Laws.{judged-good, judged-bad, judged-cut}
-use Rattle.steps.specs.Steps.{byteRead}
+use Rattle.reader_steps.proofs.Laws.{judged-good, judged-bad, judged-cut}
+use Rattle.reader_steps.specs.Steps.{byteRead}
 use Rattle.rules.specs.declared.Fault.the-variants.{BadNumbers}
 use mathlib.Core.Path.{sym, _∙_}
 use Rattle.rules.specs.Sizes.{boundGood}

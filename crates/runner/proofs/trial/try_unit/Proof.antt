@@ -7,7 +7,7 @@ use Rattle.runner.proofs.trial.try_unit.Reads as reads
 use Rattle.runner.proofs.trial.try_unit.Lts as lts
 use Rattle.reader.proofs.bound_of.Reads as bound-of-reads
 use Rattle.reader.proofs.read_unit.Reads as read-unit-reads
-use Rattle.trials.proofs.try_tests.Reads as try-tests-reads
+use Rattle.runner_trials.proofs.try_tests.Reads as try-tests-reads
 
 read-unit-requires : tie.Need-read-unit-requires
 read-unit-requires c κs = search needs

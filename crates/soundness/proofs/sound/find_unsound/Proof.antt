@@ -6,9 +6,9 @@ use Rattle.soundness.proofs.sound.find_unsound.Statement.{statement}
 use Rattle.soundness.proofs.sound.find_unsound.Tie as tie
 use Rattle.soundness.proofs.sound.find_unsound.Reads as reads
 use Rattle.soundness.proofs.sound.find_unsound.Lts as lts
-use Rattle.apart.proofs.unseparated.Reads as unseparated-reads
-use Rattle.reach.proofs.unreached.Reads as unreached-reads
-use Rattle.reach.proofs.has_empty_word.Reads as has-empty-word-reads
+use Rattle.soundness_apart.proofs.unseparated.Reads as unseparated-reads
+use Rattle.soundness_reach.proofs.unreached.Reads as unreached-reads
+use Rattle.soundness_reach.proofs.has_empty_word.Reads as has-empty-word-reads
 
 has-empty-word-requires : tie.Need-has-empty-word-requires
 has-empty-word-requires c κs = search needs

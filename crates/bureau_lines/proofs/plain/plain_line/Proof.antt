@@ -1,0 +1,34 @@
+use Rattle.line_writer.proofs.Lines.{first-closes, feed-closes}
+use Rattle.line.proofs.Given.{line-given}
+use borrow.Author.Needs.{needs}
+use Rattle.bureau_lines.proofs.plain.plain_line.Statement.{statement}
+use Rattle.bureau_lines.proofs.plain.plain_line.Tie as tie
+
+no-text-requires : tie.Need-no-text-requires
+no-text-requires c κs = search needs
+
+slice-aggregate-put-text : tie.Need-slice-aggregate-put-text
+slice-aggregate-put-text c = search needs
+
+put-text-requires : tie.Need-put-text-requires
+put-text-requires c κs = search needs
+
+slice-aggregate-put-line-feed : tie.Need-slice-aggregate-put-line-feed
+slice-aggregate-put-line-feed c = search needs
+
+put-line-feed-requires : tie.Need-put-line-feed-requires
+put-line-feed-requires c κs = search needs
+
+returns : tie.Need-returns
+returns c = line-given _ _ _ _ (c .before .before .before .before .before .before .no-text .ensures) (first-closes (c .before .before .before .before .put-text .ensures) (feed-closes (c .before .put-line-feed .ensures)))
+
+pub plain-line-spec : {M : Type 1} → statement M
+plain-line-spec =
+    tie.close
+    (tie.spec
+    no-text-requires
+    slice-aggregate-put-text
+    put-text-requires
+    slice-aggregate-put-line-feed
+    put-line-feed-requires
+    returns)

@@ -1,0 +1,22 @@
+use native.Mathlib.Omega.{arith}
+use Rattle.comparer_pairs.specs.Queue.{pairAt}
+use native.Mathlib.Nat.{mod-lt}
+use borrow.Author.Needs.{needs}
+use Rattle.comparer_pairs.proofs.queue.pair_at.Statement.{statement}
+use Rattle.comparer_pairs.proofs.queue.pair_at.Tie as tie
+
+mul-wide : tie.Need-mul-wide
+mul-wide c = search needs
+
+shared-slice-read-wide : tie.Need-shared-slice-read-wide
+shared-slice-read-wide c = search needs
+
+wide-requires : tie.Need-wide-requires
+wide-requires c κs = search needs
+
+returns : tie.Need-returns
+unfolding pairAt
+returns c = (rw (c .wide .ensures), mod-lt (c .wide .result) (omega arith))
+
+pub pair-at-spec : {M : Type 1} → statement M
+pair-at-spec = tie.close (tie.spec mul-wide shared-slice-read-wide wide-requires returns)
