@@ -16,6 +16,8 @@ use Rattle.theory.specs.Writes.{built-writes}
 
 -- the dossier e is the dossier d with other tests: those that build writes
 pub record BuiltFrom (d e : DossierData) : Type 0 where
+  pub same-inputs : e .inputs ≡ d .inputs
+  pub same-states : e .states ≡ d .states
   pub same-golden : golden e ≡ golden d
   pub same-cover : e .cover ≡ d .cover
   pub same-separating : e .separating ≡ d .separating
@@ -33,7 +35,7 @@ module _ (dossier out left : List ℕ) (n : ℕ) (promise : BuildPromise dossier
       let (w, count, wrote, to) = built-writes dossier out left n promise in
       check-answer w r (rw (written-is w count (to .front)) at checked) ∙ built-accepted dossier out w wrote
 
-  -- They read back as the same golden, word sets and bound, with the built tests.
+  -- They read back as the same numbers, golden, word sets and bound, with the built tests.
   pub written-reads-back : (d e : DossierData) × (readDossier dossier ≡ fine d) × (readDossier (take n left) ≡ fine e) × BuiltFrom d e
   written-reads-back =
       let (w, count, wrote, to) = built-writes dossier out left n promise in
@@ -42,5 +44,5 @@ module _ (dossier out left : List ℕ) (n : ℕ) (promise : BuildPromise dossier
         builtDossier d,
         b .reads,
         ap readDossier (written-is w count (to .front) ∙ is) ∙ built-reads-back dossier out d b,
-        record { same-golden = refl; same-cover = refl; same-separating = refl; same-bound-byte = refl; same-bound = refl; tests = refl },
+        record { same-inputs = refl; same-states = refl; same-golden = refl; same-cover = refl; same-separating = refl; same-bound-byte = refl; same-bound = refl; tests = refl },
       )

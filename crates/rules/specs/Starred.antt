@@ -1,9 +1,9 @@
 -- Document 01, "Worked pieces": the cases with a star, as theorems of the definitions, in one table under one statement. Rows
 -- of our own follow them.
-use Prim.Native.Nat.{ℕ}
+use Prim.Native.Nat.{ℕ, _*_}
 use mathlib.Core.Path.{_≡_, refl}
 use mathlib.Core.List.{List, [], _∷_, _++_, map, flatMap}
-use lib.ListN.{replicate}
+use lib.ListN.{length, take, replicate}
 use Rattle.rules.specs.declared.Checked.the-variants.{Accepted, Refused as CheckRefused}
 use Rattle.rules.specs.declared.Built.{Built}
 use Rattle.rules.specs.declared.Built.the-variants.{Written, Refused as BuildRefused}
@@ -12,11 +12,14 @@ use Rattle.rules.specs.declared.Compared.{Compared}
 use Rattle.rules.specs.declared.Compared.the-variants.{Differs}
 use Rattle.rules.specs.declared.Judged.{Judged}
 use Rattle.rules.specs.declared.Judged.the-variants.{Agrees, Deviates}
-use Rattle.rules.specs.declared.Refusal.the-variants.{NoEmptyWord, Unreached, NoSeparator, NotSeparated, Missing, NoRoom}
+use Rattle.rules.specs.declared.File.the-variants.{Dossier, Unit as UnitFile, Sheet}
+use Rattle.rules.specs.declared.Fault.{Fault}
+use Rattle.rules.specs.declared.Fault.the-variants.{TooLong, CutShort, BadNumbers, BadTable, BadWord, Trailing}
+use Rattle.rules.specs.declared.Refusal.the-variants.{Malformed, NoEmptyWord, Unreached, NoSeparator, NotSeparated, Missing, NoRoom}
 use Rattle.rules.specs.Lists.{sum}
 use Rattle.rules.specs.Words.{Word, wordsOf, shortlex}
 use Rattle.rules.specs.Machines.{answer}
-use Rattle.rules.specs.Files.{DossierData, UnitData, SheetRecord, golden, unit, countBytes, outputBytes, entryBytes, tableBytes, wordBytes, wordsBytes, frontBytes, dossierBytes}
+use Rattle.rules.specs.Files.{DossierData, UnitData, SheetRecord, golden, unit, bound, countBytes, outputBytes, entryBytes, tableBytes, wordBytes, wordsBytes, frontBytes, dossierBytes}
 use Rattle.rules.specs.Reading.{byte, judged, count, many, word, words, output, entry, table, sheetRecord, ending, dossier, unitTable, sheet}
 use Rattle.rules.specs.Needed.{middles, needed, neededWords, unreached, pairs, unseparated, missing, distinct, maximalOf, builtTests}
 use Rattle.rules.specs.Answers.{goldenState, middleOf}
@@ -170,6 +173,47 @@ ofUnit bytes f = answered (readUnit bytes) (λ u. fine (f u)) refuse
 abbrev totals : List ℕ → Outcome (List ℕ)
 totals bytes = answered (readSheet 2 bytes) (λ rs. fine (map (λ r. sum (r .recorded)) rs)) refuse
 
+-- the lengths of the words of a dossier and of a sheet over two inputs
+abbrev coverLengths : List ℕ → Outcome (List ℕ)
+coverLengths bytes = ofDossier bytes (λ d. map (λ w. length w) (d .cover))
+
+abbrev separatingLengths : List ℕ → Outcome (List ℕ)
+separatingLengths bytes = ofDossier bytes (λ d. map (λ w. length w) (d .separating))
+
+abbrev testLengths : List ℕ → Outcome (List ℕ)
+testLengths bytes = ofDossier bytes (λ d. map (λ w. length w) (d .tests))
+
+abbrev sheetLengths : List ℕ → Outcome (List ℕ)
+sheetLengths bytes = answered (readSheet 2 bytes) (λ rs. fine (map (λ r. length (r .word)) rs)) refuse
+
+-- the numbers of a dossier, the bound in place of the byte for it, and of a unit
+abbrev numbersOf : List ℕ → Outcome (List ℕ)
+numbersOf bytes = ofDossier bytes (λ d. d .inputs ∷ d .states ∷ bound d ∷ [])
+
+abbrev unitNumbersOf : List ℕ → Outcome (List ℕ)
+unitNumbersOf bytes = ofUnit bytes (λ u. u .inputs ∷ u .states ∷ [])
+
+-- a dossier and a unit of these numbers: every entry leads to state 0 and outputs 0, and there is no word
+abbrev plain : ℕ → ℕ → ℕ → List ℕ
+plain k n m = (3 ∷ 0 ∷ k ∷ n ∷ m ∷ []) ++ countBytes (n * k) ++ replicate (2 * (n * k)) 0 ++ noWords ++ noWords ++ noWords
+
+abbrev plainUnit : ℕ → ℕ → List ℕ
+plainUnit k u = (2 ∷ 0 ∷ k ∷ u ∷ []) ++ countBytes (u * k) ++ replicate (2 * (u * k)) 0
+
+-- a section of one word, of n inputs 0
+abbrev long : ℕ → List ℕ
+long n = 1 ∷ 0 ∷ n ∷ replicate n 0
+
+-- the file is refused by a fault at a place; the sheet is one over two inputs
+abbrev DossierRefused : List ℕ → Fault → ℕ → Type 0
+DossierRefused bytes fault p = readDossier bytes ≡ refuse (Malformed fault Dossier p)
+
+abbrev UnitRefused : List ℕ → Fault → ℕ → Type 0
+UnitRefused bytes fault p = readUnit bytes ≡ refuse (Malformed fault UnitFile p)
+
+abbrev SheetRefused : List ℕ → Fault → ℕ → Type 0
+SheetRefused bytes fault p = readSheet 2 bytes ≡ refuse (Malformed fault Sheet p)
+
 -- the words 0, 00, 10, 100, 110
 abbrev needed2 : List Word
 needed2 = (0 ∷ []) ∷ (0 ∷ 0 ∷ []) ∷ (1 ∷ 0 ∷ []) ∷ (1 ∷ 0 ∷ 0 ∷ []) ∷ (1 ∷ 1 ∷ 0 ∷ []) ∷ []
@@ -238,6 +282,61 @@ pub record Starred : Type 0 where
   pub deviates-V : judgeAnswer built3 sheetV ≡ Deviates 1 2
   -- the line that the program prints
   pub line-3 : runLine built3 unitV ≡ text "FAILS 1 2 010 1 0\n"
+  -- Ours, 1 to 6 at both ends of their ranges. 1: a file of its size is read, one byte more is not.
+  pub too-long : (DossierRefused (blank 65535) BadNumbers 0) × (DossierRefused (blank 65536) TooLong 0)
+  pub unit-too-long : (UnitRefused (blank 65535) BadNumbers 0) × (UnitRefused (blank 65536) TooLong 0)
+  pub sheet-too-long : (SheetRefused (blank 131070) BadWord 3) × (SheetRefused (blank 131071) TooLong 0)
+  -- 2: no byte, and all but the last one
+  pub cut-short : (DossierRefused [] CutShort 0) × (DossierRefused (take 36 built2) CutShort 36)
+  pub unit-cut-short : (UnitRefused [] CutShort 0) × (UnitRefused (take 17 unitV) CutShort 17)
+  pub sheet-cut-short : (SheetRefused [] CutShort 0) × (SheetRefused (take 20 sheet2′) CutShort 20)
+  -- a count is judged when both its bytes are there
+  pub half-count : (DossierRefused (4 ∷ []) CutShort 1) × (DossierRefused (4 ∷ 0 ∷ []) BadNumbers 0)
+  -- 3: the counts beside 3 and 2, and 3 with a high byte
+  pub count-of-numbers : (DossierRefused (2 ∷ 0 ∷ 2 ∷ 2 ∷ 2 ∷ []) BadNumbers 0) × (DossierRefused (4 ∷ 0 ∷ 2 ∷ 2 ∷ 2 ∷ []) BadNumbers 0)
+      × (DossierRefused (3 ∷ 1 ∷ 2 ∷ 2 ∷ 2 ∷ []) BadNumbers 0)
+  pub unit-count-of-numbers : (UnitRefused (1 ∷ 0 ∷ 2 ∷ 3 ∷ []) BadNumbers 0) × (UnitRefused (3 ∷ 0 ∷ 2 ∷ 3 ∷ []) BadNumbers 0)
+  -- k is 1 to 16
+  pub inputs : (DossierRefused (plain 0 1 0) BadNumbers 2) × (numbersOf (plain 1 1 0) ≡ fine (1 ∷ 1 ∷ 1 ∷ []))
+      × (numbersOf (plain 16 1 0) ≡ fine (16 ∷ 1 ∷ 1 ∷ [])) × (DossierRefused (plain 17 1 0) BadNumbers 2)
+  -- n is 1 to 64; the largest table has 1,024 entries
+  pub states : (DossierRefused (plain 1 0 0) BadNumbers 3) × (numbersOf (plain 16 64 0) ≡ fine (16 ∷ 64 ∷ 64 ∷ []))
+      × (DossierRefused (plain 1 65 0) BadNumbers 3)
+  -- m is n at least, unless that byte is 0, the default
+  pub bound-least : (DossierRefused (plain 1 2 1) BadNumbers 4) × (numbersOf (plain 1 2 2) ≡ fine (1 ∷ 2 ∷ 2 ∷ []))
+      × (numbersOf (plain 1 2 0) ≡ fine (1 ∷ 2 ∷ 2 ∷ []))
+  -- m = 64 with n = 60 is in range; n = 59 is 3, and so is m = 65
+  pub bound-most : (numbersOf (plain 1 60 64) ≡ fine (1 ∷ 60 ∷ 64 ∷ [])) × (DossierRefused (plain 1 59 64) BadNumbers 4)
+      × (DossierRefused (plain 1 64 65) BadNumbers 4)
+  -- a unit's k and u are in the same ranges
+  pub unit-inputs : (UnitRefused (plainUnit 0 1) BadNumbers 2) × (unitNumbersOf (plainUnit 1 1) ≡ fine (1 ∷ 1 ∷ []))
+      × (UnitRefused (plainUnit 17 1) BadNumbers 2)
+  pub unit-states : (UnitRefused (plainUnit 1 0) BadNumbers 3) × (unitNumbersOf (plainUnit 16 64) ≡ fine (16 ∷ 64 ∷ []))
+      × (UnitRefused (plainUnit 1 65) BadNumbers 3)
+  -- 4: the counts beside n · k
+  pub count-of-entries : (DossierRefused (numbersG 2 ++ (3 ∷ 0 ∷ [])) BadTable 5) × (DossierRefused (numbersG 2 ++ (5 ∷ 0 ∷ [])) BadTable 5)
+      × (UnitRefused (2 ∷ 0 ∷ 2 ∷ 3 ∷ 5 ∷ 0 ∷ []) BadTable 4) × (UnitRefused (2 ∷ 0 ∷ 2 ∷ 3 ∷ 7 ∷ 0 ∷ []) BadTable 4)
+  -- the first and the last next state, which are 1 at most in G and 2 at most in V
+  pub next-states : (DossierRefused (numbersG 2 ++ (4 ∷ 0 ∷ 2 ∷ [])) BadTable 7) × (DossierRefused (take 13 built2 ++ (2 ∷ [])) BadTable 13)
+      × (UnitRefused (take 6 unitV ++ (3 ∷ [])) BadTable 6) × (UnitRefused (take 16 unitV ++ (3 ∷ [])) BadTable 16)
+  -- 5: a cover or separating word of 97 inputs is read, one of 98 is 5
+  pub cover-word : (coverLengths (dossierG 2 (long 97) noWords noWords) ≡ fine (97 ∷ []))
+      × (DossierRefused (dossierG 2 (long 98) noWords noWords) BadWord 17)
+  pub separating-word : (separatingLengths (dossierG 2 noWords (long 97) noWords) ≡ fine (97 ∷ []))
+      × (DossierRefused (dossierG 2 noWords (long 98) noWords) BadWord 19)
+  -- a test or sheet word of 200 inputs is read, one of 201 is 5
+  pub test-word : (testLengths (dossierG 2 noWords noWords (long 200)) ≡ fine (200 ∷ []))
+      × (DossierRefused (dossierG 2 noWords noWords (long 201)) BadWord 21)
+  pub sheet-word : (sheetLengths (long 200 ++ replicate 200 0) ≡ fine (200 ∷ [])) × (SheetRefused (long 201) BadWord 2)
+  -- the inputs 1, which is k - 1, and 2, in the first word of a dossier, as its last byte, and in a sheet
+  pub first-input : (coverLengths (dossierG 2 only1 noWords noWords) ≡ fine (1 ∷ []))
+      × (DossierRefused (dossierG 2 (1 ∷ 0 ∷ 1 ∷ 2 ∷ []) noWords noWords) BadWord 18)
+  pub last-input : (testLengths (take 36 built2 ++ (1 ∷ [])) ≡ fine (2 ∷ 3 ∷ 3 ∷ [])) × (DossierRefused (take 36 built2 ++ (2 ∷ [])) BadWord 36)
+  pub sheet-input : (sheetLengths (1 ∷ 0 ∷ 1 ∷ 1 ∷ 0 ∷ []) ≡ fine (1 ∷ [])) × (SheetRefused (1 ∷ 0 ∷ 1 ∷ 2 ∷ []) BadWord 3)
+  -- 6: a byte, and two, after the last section
+  pub trailing : (DossierRefused (built2 ++ (0 ∷ [])) Trailing 37) × (DossierRefused (built2 ++ (0 ∷ 0 ∷ [])) Trailing 37)
+      × (UnitRefused (unitV ++ (0 ∷ [])) Trailing 18) × (SheetRefused (sheet2′ ++ (0 ∷ [])) Trailing 21)
+      × (SheetRefused (noWords ++ (0 ∷ [])) Trailing 2)
 
 pub starred : Starred
 unfolding flatMap wordsOf shortlex countBytes outputBytes entryBytes tableBytes wordBytes wordsBytes frontBytes dossierBytes byte judged count many word words output entry table sheetRecord ending dossier unitTable sheet middles needed unreached pairs unseparated missing maximalOf builtTests readFile sound enough check build run telling compare repeated foreign absent pair judge testPart decimal runLine
@@ -277,4 +376,29 @@ starred =
       agrees-2′ = refl;
       deviates-V = refl;
       line-3 = refl;
+      too-long = (refl, refl);
+      unit-too-long = (refl, refl);
+      sheet-too-long = (refl, refl);
+      cut-short = (refl, refl);
+      unit-cut-short = (refl, refl);
+      sheet-cut-short = (refl, refl);
+      half-count = (refl, refl);
+      count-of-numbers = (refl, refl, refl);
+      unit-count-of-numbers = (refl, refl);
+      inputs = (refl, refl, refl, refl);
+      states = (refl, refl, refl);
+      bound-least = (refl, refl, refl);
+      bound-most = (refl, refl, refl);
+      unit-inputs = (refl, refl, refl);
+      unit-states = (refl, refl, refl);
+      count-of-entries = (refl, refl, refl, refl);
+      next-states = (refl, refl, refl, refl);
+      cover-word = (refl, refl);
+      separating-word = (refl, refl);
+      test-word = (refl, refl);
+      sheet-word = (refl, refl);
+      first-input = (refl, refl);
+      last-input = (refl, refl);
+      sheet-input = (refl, refl);
+      trailing = (refl, refl, refl, refl, refl);
     }

@@ -20,14 +20,14 @@ use Rattle.theory.specs.Sections.{reads-judged-byte, reads-judged-count,
 counts-true : (most x : ℕ) → 0 < x → x ≤ most → counts most x ≡ true
 counts-true most x some few = and-eq-true-iff (leb 1 x) (leb x most) .1 (le-leb 1 x some, le-leb x most few)
 
-true-counts : (most x : ℕ) → counts most x ≡ true → (0 < x) × (x ≤ most)
+pub true-counts : (most x : ℕ) → counts most x ≡ true → (0 < x) × (x ≤ most)
 true-counts most x is = let (some, few) = and-eq-true-iff (leb 1 x) (leb x most) .0 is in (leb-true 1 x some, leb-true x most few)
 
 -- what a byte for m has to be where the golden has n states
 abbrev pub InRange : ℕ → ℕ → Type 0
 InRange n b = (n ≤ boundOf n b) × (boundOf n b ≤ mostStates) × (boundOf n b ≤ n + mostAddedStates)
 
-bound-true : (n b : ℕ) → InRange n b → boundGood n b ≡ true
+pub bound-true : (n b : ℕ) → InRange n b → boundGood n b ≡ true
 bound-true n b (least, most, near) =
     let m = boundOf n b in
     rw (le-leb n m least, le-leb m mostStates most, le-leb m (n + mostAddedStates) near)

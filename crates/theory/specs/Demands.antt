@@ -3,6 +3,7 @@ use Prim.Native.Nat.{ℕ, _≤_}
 use mathlib.Core.Path.{_≡_, refl, sym, _∙_}
 use mathlib.Core.Logic.{_↔_, _≢_}
 use mathlib.Core.List.{List}
+use native.Mathlib.Omega.{arith}
 use lib.ListN.{length}
 use Rattle.rules.specs.declared.Checked.the-variants.{Accepted}
 use Rattle.rules.specs.declared.Ran.{Ran}
@@ -20,6 +21,7 @@ use Rattle.rules.specs.Operations.{fine, readDossier, readUnit, readSheet, chec
 use Rattle.rules.specs.Promises.{CheckPromise, RunPromise, ComparePromise, JudgePromise}
 use Rattle.theory.specs.Lists.{At}
 use Rattle.theory.specs.Machines.{golden-complete}
+use Rattle.theory.specs.Numbering.{MachineOver, AtMost, answers, numbered, numbered-complete, numbered-answers}
 use Rattle.theory.specs.Complete.{complete}
 use Rattle.theory.specs.Outcomes.{fine-injective}
 use Rattle.theory.specs.Answers.{check-answer, run-answer, compare-answer, judge-answer}
@@ -49,6 +51,25 @@ pub tests-settle-every-word : (dossierFile : List ℕ) (d : DossierData) → che
     → (w : Word) → Valid (d .inputs) w → answer U w ≡ answer (golden d) w
 tests-settle-every-word dossierFile d accepted reads U covered alike =
     complete d (dossier-sized dossierFile d reads) (accepted-as dossierFile d accepted reads) U (covered .whole) (covered .few) alike
+
+-- The same over the promise of check: of any program that keeps it.
+pub allowed-tests-settle-every-word : (dossierFile : List ℕ) (d : DossierData) → CheckPromise dossierFile Accepted → readDossier dossierFile ≡ fine d
+    → (U : Machine) → Covered d U → ((t : Word) → t ∈ d .tests → answer U t ≡ answer (golden d) t)
+    → (w : Word) → Valid (d .inputs) w → answer U w ≡ answer (golden d) w
+allowed-tests-settle-every-word dossierFile d accepted = tests-settle-every-word dossierFile d (sym (check-answer dossierFile Accepted accepted))
+
+-- The same for a machine over any set of states that someone can number below m.
+pub tests-settle-any-machine : (dossierFile : List ℕ) (d : DossierData) → checkAnswer dossierFile ≡ Accepted → readDossier dossierFile ≡ fine d
+    → {S : Type 0} (M : MachineOver S) → AtMost (bound d) S → ((t : Word) → t ∈ d .tests → answers M t ≡ answer (golden d) t)
+    → (w : Word) → Valid (d .inputs) w → answers M w ≡ answer (golden d) w
+tests-settle-any-machine dossierFile d accepted reads M few alike w valid =
+    sym (numbered-answers M few w)
+    ∙ tests-settle-every-word dossierFile d accepted reads (numbered M few) (record { whole = numbered-complete M few (d .inputs); few = omega arith }) (λ t m. numbered-answers M few t ∙ alike t m) w valid
+
+pub allowed-tests-settle-any-machine : (dossierFile : List ℕ) (d : DossierData) → CheckPromise dossierFile Accepted → readDossier dossierFile ≡ fine d
+    → {S : Type 0} (M : MachineOver S) → AtMost (bound d) S → ((t : Word) → t ∈ d .tests → answers M t ≡ answer (golden d) t)
+    → (w : Word) → Valid (d .inputs) w → answers M w ≡ answer (golden d) w
+allowed-tests-settle-any-machine dossierFile d accepted = tests-settle-any-machine dossierFile d (sym (check-answer dossierFile Accepted accepted))
 
 -- EQUAL is given exactly when golden and unit answer every word alike.
 pub equal-exactly : (dossierFile unitFile out : List ℕ) (d : DossierData) (u : UnitData) → readDossier dossierFile ≡ fine d → readUnit unitFile ≡ fine u → d .inputs ≡ u .inputs

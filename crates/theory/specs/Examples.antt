@@ -1,32 +1,40 @@
 -- The premises of the theorems can be met: each theorem at document 01's worked pieces. `built2` and `built3` are the built dossiers
 -- of G for m = 2 and m = 3, `unitV` is the unit V, and `sheet2` the sheet for m = 2.
-use Prim.Native.Nat.{ℕ}
+use Prim.Native.Nat.{ℕ, zero, suc}
 use native.Mathlib.Nat.{add-comm}
 use native.Mathlib.Omega.{arith}
 use lib.ListN.{take, drop, replicate}
 use mathlib.Core.Path.{_≡_, refl, sym, _∙_, ap}
 use mathlib.Core.Logic.{_↔_, _≢_}
-use mathlib.Core.List.{List, [], _∷_}
+use mathlib.Core.List.{List, [], _∷_, _++_}
+use mathlib.Core.Bool.{Bool, true, false, cond}
+use borrow.Author.Tests.{ltb-true}
+use lib.Dec.{ltb, eqb}
 use Rattle.rules.specs.declared.Ran.the-variants.{Passes, Fails}
 use Rattle.rules.specs.declared.Compared.the-variants.{Equal as Alike, Differs}
 use Rattle.rules.specs.declared.Judged.the-variants.{Agrees}
+use Rattle.rules.specs.declared.Fault.the-variants.{BadNumbers, BadWord, Trailing}
+use Rattle.rules.specs.Lists.{all}
 use Rattle.rules.specs.Words.{Word, Valid, same}
 use Rattle.rules.specs.Machines.{answer}
-use Rattle.rules.specs.Files.{DossierData, SheetRecord, golden, unit}
+use Rattle.rules.specs.Files.{DossierData, SheetRecord, golden, unit, sheetBytes}
 use Rattle.rules.specs.Operations.{fine, readDossier, readSheet, runAnswer, compareAnswer, judgeAnswer, partOf, judgedPart}
 use Rattle.rules.specs.Answers.{checkSays, runSays, compareSays, judgeSays}
 use Rattle.rules.specs.Starred.{built2, built3, unitV, sheet2, sheet2′, sheetV, dataG2, dataG3, dataV, records2, records2′, recordsV, starred}
 use Rattle.theory.specs.Lists.{At, all-true}
 use Rattle.theory.specs.Words.{same-true}
-use Rattle.theory.specs.Reordering.{Reordered, times-append, SameVerdict, order-does-not-matter, allowed-order-does-not-matter}
-use Rattle.theory.specs.Sized.{SizedDossier}
+use Rattle.theory.specs.Reordering.{Reordered, times-append, SameVerdict, order-does-not-matter, allowed-order-does-not-matter, reordered-does-not-matter}
+use Rattle.theory.specs.Sized.{Bytes, SizedDossier}
 use Rattle.theory.specs.Machines.{golden-complete}
+use Rattle.theory.specs.Numbering.{MachineOver, AtMost, answers}
 use Rattle.theory.specs.Files.{dossier-sized, unit-sized}
+use Rattle.theory.specs.Texts.{Begun, WrongAt, Short, short-at-seam}
+use Rattle.theory.specs.Faults.{NumberAt, FormedDossier, FormedUnit, FormedSheet, DossierSeam, UnitSeam, SheetSeam, dossierSection, unitSection, sheetSection, dossier-faults, unit-faults, sheet-faults}
 use Rattle.theory.specs.Judge.{AllGolden, judge-exactly}
 use Rattle.theory.specs.Compare.{Equal}
 use Rattle.theory.specs.Pairing.{Belongs}
 use Rattle.theory.specs.Outcomes.{fine-injective}
-use Rattle.theory.specs.Demands.{Covered, SheetOf, tests-settle-every-word, equal-exactly, passes-exactly-when-equal, allowed-passes-exactly-when-equal, agreeing-sheet-settles, allowed-agreeing-sheet-settles, deviating-sheet-tells, equal-machine-agrees}
+use Rattle.theory.specs.Demands.{Covered, SheetOf, tests-settle-every-word, allowed-tests-settle-every-word, tests-settle-any-machine, equal-exactly, passes-exactly-when-equal, allowed-passes-exactly-when-equal, agreeing-sheet-settles, allowed-agreeing-sheet-settles, deviating-sheet-tells, equal-machine-agrees}
 
 -- the sheet with the golden's answers
 abbrev trueSheet : List ℕ
@@ -49,6 +57,38 @@ covered-V = record { whole = golden-complete (unit-sized unitV dataV (starred .u
 -- Complete, at the dossier for m = 2 and G itself.
 complete-example : (w : Word) → Valid 2 w → answer (golden dataG2) w ≡ answer (golden dataG2) w
 complete-example = tests-settle-every-word built2 dataG2 (starred .accepted-2) (starred .reads-2) (golden dataG2) covered-2 (λ t m. refl)
+
+-- The same over what the promise of check allows for it.
+allowed-complete-example : (w : Word) → Valid 2 w → answer (golden dataG2) w ≡ answer (golden dataG2) w
+allowed-complete-example = allowed-tests-settle-every-word built2 dataG2 (ap checkSays (sym (starred .accepted-2))) (starred .reads-2) (golden dataG2) covered-2 (λ t m. refl)
+
+-- G over the set of states `true` and `false`: the last input was 1, or it was not. They are numbered 0 and 1, the state after reset being 1.
+abbrev overBool : MachineOver Bool
+overBool = record { start = false; next = λ s i. eqb i 1; output = λ s i. cond s (cond (eqb i 0) 1 0) 0 }
+
+numberOf : Bool → ℕ
+numberOf true = 0
+numberOf false = 1
+
+stateOf : ℕ → Bool
+stateOf zero = true
+stateOf (suc q) = false
+
+two-states : AtMost 2 Bool
+unfolding numberOf stateOf
+two-states =
+    record {
+      number = numberOf;
+      state = stateOf;
+      told = elim [ true ↦ refl | false ↦ refl ];
+      small = elim [ true ↦ omega arith | false ↦ omega arith ];
+    }
+
+-- It answers the tests as G does, and so every word.
+any-machine-example : (w : Word) → Valid 2 w → answers overBool w ≡ answer (golden dataG2) w
+any-machine-example =
+    tests-settle-any-machine built2 dataG2 (starred .accepted-2) (starred .reads-2) overBool two-states
+    (λ t m. same-true _ _ (all-true (λ (v : Word). same (answers overBool v) (answer (golden dataG2) v)) {l = dataG2 .tests} refl m))
 
 -- Passes exactly when equal, at the dossier for m = 3 and V, which fails and differs.
 passes-example : ((n : ℕ) × (runAnswer built3 unitV ≡ Passes n)) ↔ (compareAnswer built3 unitV [] ≡ Alike)
@@ -116,3 +156,40 @@ allowed-order-example : SameVerdict Agrees Agrees × (partOf built2 (judgedPart 
 allowed-order-example =
     allowed-order-does-not-matter built2 trueSheet sheet2′ records2 records2′ Agrees Agrees _ _ both-read each-as-often
     (ap judgeSays (sym (starred .agrees-2))) (ap judgeSays (sym (starred .agrees-2′))) refl refl
+
+-- The sheet with its records written out in another order, which reads well by itself.
+reordered-example : SameVerdict (judgeAnswer built2 trueSheet) (judgeAnswer built2 (sheetBytes records2′)) × (judgedPart built2 trueSheet ≡ judgedPart built2 (sheetBytes records2′))
+reordered-example = reordered-does-not-matter built2 trueSheet records2 records2′ (λ d reads. both-read d reads .0) each-as-often
+
+-- Files of bytes, refused by 2, 3, 5 and 6.
+bytes-of : (l : List ℕ) → all (λ b. ltb b 256) l ≡ true → Bytes l
+bytes-of l e b m = ltb-true b 256 (all-true (λ c. ltb c 256) e m)
+
+-- The m = 2 dossier without its last byte is cut short,
+abbrev cutDossier : List ℕ
+cutDossier = take 36 built2
+
+cut-example : Short FormedDossier DossierSeam cutDossier
+cut-example = dossier-faults cutDossier (bytes-of cutDossier refl) (omega arith) .cut-short .0 (starred .cut-short .1)
+
+-- that is: all of it begins a well-formed dossier, and it is none;
+begun-example : Begun FormedDossier DossierSeam cutDossier × (FormedDossier cutDossier → ⊥)
+begun-example = short-at-seam FormedDossier DossierSeam cutDossier (omega arith) .0 cut-example
+
+-- and with an input 2 there it goes wrong at that place, in a word.
+abbrev wrongDossier : List ℕ
+wrongDossier = take 36 built2 ++ (2 ∷ [])
+
+wrong-example : WrongAt FormedDossier DossierSeam wrongDossier 36 × NumberAt FormedDossier dossierSection wrongDossier 36 BadWord
+wrong-example = dossier-faults wrongDossier (bytes-of wrongDossier refl) (omega arith) .wrong BadWord 36 .0 (tt, starred .last-input .1)
+
+-- A unit with a wrong count of numbers goes wrong at 0, and a sheet with a byte too many behind its last record.
+unit-example : WrongAt FormedUnit UnitSeam (1 ∷ 0 ∷ 2 ∷ 3 ∷ []) 0 × NumberAt FormedUnit unitSection (1 ∷ 0 ∷ 2 ∷ 3 ∷ []) 0 BadNumbers
+unit-example =
+    unit-faults (1 ∷ 0 ∷ 2 ∷ 3 ∷ []) (bytes-of (1 ∷ 0 ∷ 2 ∷ 3 ∷ []) refl) (omega arith) .wrong BadNumbers 0 .0 (tt, starred .unit-count-of-numbers .0)
+
+abbrev longSheet : List ℕ
+longSheet = sheet2′ ++ (0 ∷ [])
+
+sheet-example : WrongAt (FormedSheet 2) SheetSeam longSheet 21 × NumberAt (FormedSheet 2) sheetSection longSheet 21 Trailing
+sheet-example = sheet-faults 2 (omega arith) longSheet (bytes-of longSheet refl) (omega arith) .wrong Trailing 21 .0 (tt, starred .trailing .3)

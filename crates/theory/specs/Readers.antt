@@ -77,7 +77,7 @@ module _ {A : Type 0} where
     pub taken : AllTaken After read Rule bytes
     pub met : AllMet read
 
-not-both : {A : Type 0} {a : A} {q : ℕ} {t : List ℕ} {fault : Fault} {x : ℕ} → got a q t ≡ faulty fault x → ⊥
+pub not-both : {A : Type 0} {a : A} {q : ℕ} {t : List ℕ} {fault : Fault} {x : ℕ} → got a q t ≡ faulty fault x → ⊥
 not-both e = let z : _≡_ {A = ℕ} 0 1 = cc in omega arith
 
 -- what a reading in two steps was made of, if it went well and if it met a fault
@@ -87,7 +87,7 @@ module _ {A B : Type 0} (next : A → Reader B) where
   then-got (got a q′ r) b q t e = (a, q′, r, refl, e)
   then-got (faulty fault x) b q t e = absurd (not-both (sym e))
 
-  then-faulty : (y : Got A) (fault : Fault) (x : ℕ) → then y next ≡ faulty fault x
+  pub then-faulty : (y : Got A) (fault : Fault) (x : ℕ) → then y next ≡ faulty fault x
       → (y ≡ faulty fault x) ⊎ ((a : A) × (q : ℕ) × (r : List ℕ) × (y ≡ got a q r) × (next a q r ≡ faulty fault x))
   then-faulty (got a q r) fault x e = inr (a, q, r, refl, e)
   then-faulty (faulty fault′ x′) fault x e = inl cc
@@ -99,7 +99,7 @@ module _ (y q : ℕ) (t : List ℕ) (fault : Fault) (p : ℕ) where
   judged-good true x q′ t′ e = (refl, e)
   judged-good false x q′ t′ e = absurd (not-both (sym e))
 
-  judged-bad : (b : Bool) (fault′ : Fault) (x : ℕ) → cond b (got y q t) (faulty fault p) ≡ faulty fault′ x
+  pub judged-bad : (b : Bool) (fault′ : Fault) (x : ℕ) → cond b (got y q t) (faulty fault p) ≡ faulty fault′ x
       → (b ≡ false) × (fault ≡ fault′) × (p ≡ x)
   judged-bad true fault′ x e = absurd (not-both e)
   judged-bad false fault′ x e = (refl, cc, cc)
@@ -228,7 +228,7 @@ met-first read whole p l fault x on (inr s) =
     })
 
 -- what the first step takes, and then the second, is taken by the whole
-takes-then : {A B : Type 0} {After : List ℕ → Type 0} (read : Reader A) (next : A → Reader B) (w : List ℕ) (a : A) (v : List ℕ) (b : B)
+pub takes-then : {A B : Type 0} {After : List ℕ → Type 0} (read : Reader A) (next : A → Reader B) (w : List ℕ) (a : A) (v : List ℕ) (b : B)
     → Takes Anything read w a → Takes After (next a) v b → Takes After (_>>=_ read next) (w ++ v) b
 takes-then read next w a v b takes takes′ t after p =
     rw (append-assoc w v t, takes (v ++ t) tt p, length-append w v, ← (add-assoc p (length w) (length v))) (takes′ t after (p + length w))

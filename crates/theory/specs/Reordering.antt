@@ -1,11 +1,12 @@
 -- Reordering the records of a sheet changes nothing that the judge says, but for the place of a REPEATED or FOREIGN record.
-use Prim.Native.Nat.{ℕ, zero, suc, _+_, _<_}
+use Prim.Native.Nat.{ℕ, zero, suc, _+_, _/_, _≤_, _<_}
 use native.Mathlib.Omega.{arith}
 use mathlib.Core.Path.{_≡_, refl, sym, _∙_, ap}
 use mathlib.Core.Logic.{_≢_, inl, inr}
-use mathlib.Core.List.{List, [], _∷_, _++_, List·Memᴰ·head, List·Memᴰ·tail, List·Memᴰ·not-nil, List·Memᴰ·cases-cons, List·Memᴰ·append-cases, Memᴰ·append-left, Memᴰ·append-right}
+use mathlib.Core.List.{List, [], _∷_, _++_, flatMap, List·Memᴰ·head, List·Memᴰ·tail, List·Memᴰ·not-nil, List·Memᴰ·cases-cons, List·Memᴰ·append-cases, Memᴰ·append-left, Memᴰ·append-right}
 use mathlib.Core.Bool.{Bool, true, cond, not, _&&_}
 use mathlib.Core.Option.{Option, none, some}
+use lib.ListN.{length, length-append}
 use Rattle.rules.specs.declared.Refusal.{Refusal}
 use Rattle.rules.specs.declared.Refusal.the-variants.{Repeated, Foreign, Absent}
 use Rattle.rules.specs.declared.Judged.{Judged}
@@ -14,7 +15,11 @@ use Rattle.rules.specs.Answers.{numberOf}
 use Rattle.rules.specs.Lists.{_∈_, placed}
 use Rattle.rules.specs.Words.{Word, same}
 use Rattle.rules.specs.Machines.{answer}
-use Rattle.rules.specs.Files.{DossierData, SheetRecord, golden}
+use Rattle.rules.specs.Sizes.{mostInputs}
+use Rattle.rules.specs.Files.{DossierData, SheetRecord, golden, countBytes, outputBytes, wordBytes, recordBytes, sheetBytes}
+use Rattle.theory.specs.Sized.{Bytes, SizedSheet}
+use Rattle.theory.specs.Spelling.{bytes-right, flatMap-bytes}
+use Rattle.theory.specs.Files.{sheet-read, sheet-sized, sheet-whole, sheet-written}
 use Rattle.theory.specs.Lists.{outcome, some-injective, first-same, of-placed, Rising, at-in, in-at}
 use Rattle.theory.specs.Words.{both, same-true, same-refl}
 use Rattle.rules.specs.Operations.{Outcome, fine, refuse, answered, _>>_, readDossier, readSheet, check, firstDifference, pair, recordedFor, deviating, judge, deviatingOf, judgement, judgeAnswer, Part, noPart, partOf, deviatingPart, judgedPart}
@@ -98,14 +103,13 @@ rising-without (e ∷ a) b r (ahead, rising) =
           ],
     )
 
-rising-reordered : (rs ts : List SheetRecord) → Reordered rs ts → Rising Different rs → Rising Different ts
-rising-reordered rs [] h r = tt
-rising-reordered rs (t ∷ ts) h r =
+-- A sheet and its reordering lose a record together: the first one of the one, wherever it stands in the other.
+less-first : (rs : List SheetRecord) (t : SheetRecord) (ts : List SheetRecord) → Reordered rs (t ∷ ts)
+    → (a b : List SheetRecord) × (rs ≡ a ++ (t ∷ b)) × Reordered (a ++ b) ts
+less-first rs t ts h =
     let in-t : t ∈ rs = times-in t rs (omega (arith, h t, in-times {r = t} {rs = t ∷ ts} (List·Memᴰ·head refl))) in
     let (a, b, e) = split in-t in
-    let (rest, other) = rising-without a b t (rw e at r) in
-    let less : Reordered (a ++ b) ts = λ s. without a b e s in
-    (λ s m. other s (times-in s (a ++ b) (omega (arith, less s, in-times m))), rising-reordered (a ++ b) ts less rest)
+    (a, b, e, without a b e)
   where
     without : (a b : List SheetRecord) → rs ≡ a ++ (t ∷ b) → (s : SheetRecord) → times s (a ++ b) ≡ times s ts
     without a b e s =
@@ -116,6 +120,13 @@ rising-reordered rs (t ∷ ts) h r =
           | inl p ↦ let whole′ : times s (a ++ (t ∷ b)) ≡ suc (times s ts) = rw p at whole in let left′ : times s (a ++ (t ∷ b)) ≡ times s a + suc (times s b) = rw p at left in omega arith
           | inr p ↦ let whole′ : times s (a ++ (t ∷ b)) ≡ times s ts = rw p at whole in let left′ : times s (a ++ (t ∷ b)) ≡ times s a + times s b = rw p at left in omega arith
         ]
+
+rising-reordered : (rs ts : List SheetRecord) → Reordered rs ts → Rising Different rs → Rising Different ts
+rising-reordered rs [] h r = tt
+rising-reordered rs (t ∷ ts) h r =
+    let (a, b, e, less) = less-first rs t ts h in
+    let (rest, other) = rising-without a b t (rw e at r) in
+    (λ s m. other s (times-in s (a ++ b) (omega (arith, less s, in-times m))), rising-reordered (a ++ b) ts less rest)
 
 rising-once : (rs : List SheetRecord) → Rising Different rs → NoneRepeated rs
 rising-once [] r i x at (j, e, less, at′, is) = absurd (List·Memᴰ·not-nil (at-in [] i at))
@@ -259,3 +270,74 @@ pub allowed-order-does-not-matter : (dossierFile one two : List ℕ) (rs ts : Li
 allowed-order-does-not-matter dossierFile one two rs ts r s part other read reordered judges judges′ hands hands′ =
     let (verdict, same-part) = order-does-not-matter dossierFile one two rs ts read reordered in
     (rw (judge-answer dossierFile one r judges, judge-answer dossierFile two s judges′) verdict, hands ∙ ap (partOf dossierFile) same-part ∙ sym hands′)
+
+-- What is written for each record takes as many bytes in another order.
+module _ (f : SheetRecord → List ℕ) where
+  size-without : (a b : List SheetRecord) (t : SheetRecord) → length (flatMap f (a ++ (t ∷ b))) ≡ length (f t) + length (flatMap f (a ++ b))
+  unfolding flatMap
+  size-without [] b t = length-append (f t) (flatMap f b)
+  size-without (r ∷ a) b t =
+      rw (length-append (f r) (flatMap f (a ++ (t ∷ b))), length-append (f r) (flatMap f (a ++ b))) (omega (arith, size-without a b t))
+
+  size-reordered : (rs ts : List SheetRecord) → Reordered rs ts → length (flatMap f rs) ≡ length (flatMap f ts)
+  unfolding flatMap
+  size-reordered [] [] h = refl
+  size-reordered (r ∷ rs) [] h = absurd (omega (arith, h r, in-times {r = r} {rs = r ∷ rs} (List·Memᴰ·head refl)))
+  size-reordered rs (t ∷ ts) h =
+      let (a, b, e, less) = less-first rs t ts h in
+      rw (e, size-without a b t, length-append (f t) (flatMap f ts)) (omega (arith, size-reordered (a ++ b) ts less))
+
+-- So there are as many records: a byte for each is as long.
+abbrev aByte : SheetRecord → List ℕ
+aByte r = 0 ∷ []
+
+length-ones : (rs : List SheetRecord) → length (flatMap aByte rs) ≡ length rs
+unfolding flatMap
+length-ones [] = refl
+length-ones (r ∷ rs) = ap suc (length-ones rs)
+
+pub length-reordered : (rs ts : List SheetRecord) → Reordered rs ts → length rs ≡ length ts
+length-reordered rs ts reordered = sym (length-ones rs) ∙ size-reordered aByte rs ts reordered ∙ length-ones ts
+
+-- The records of a sheet that reads well, written out in another order, are a sheet that reads well
+reordered-sized : (k : ℕ) (rs ts : List SheetRecord) → Reordered rs ts → SizedSheet k rs → SizedSheet k ts
+unfolding sheetBytes countBytes
+reordered-sized k rs ts reordered sized =
+    record {
+      words = λ r m. sized .words r (reordered-in ts rs (λ s. sym (reordered s)) m);
+      answers = λ r m. sized .answers r (reordered-in ts rs (λ s. sym (reordered s)) m);
+      size = rw (← size-reordered recordBytes rs ts reordered) (sized .size);
+    }
+
+pub reordered-reads : (k : ℕ) (sheetFile : List ℕ) (rs ts : List SheetRecord) → readSheet k sheetFile ≡ fine rs → Reordered rs ts
+    → readSheet k (sheetBytes ts) ≡ fine ts
+reordered-reads k sheetFile rs ts reads reordered = sheet-read k ts (reordered-sized k rs ts reordered (sheet-sized k sheetFile rs reads))
+
+-- and it is bytes, if the sheet that was read is.
+pub reordered-bytes : (k : ℕ) (sheetFile : List ℕ) (rs ts : List SheetRecord) → k ≤ mostInputs → Bytes sheetFile → readSheet k sheetFile ≡ fine rs
+    → Reordered rs ts → Bytes (sheetBytes ts)
+unfolding sheetBytes recordBytes countBytes outputBytes
+reordered-bytes k sheetFile rs ts few-inputs are-bytes reads reordered =
+    let whole : Bytes (sheetBytes rs) = rw (sheet-whole k sheetFile rs are-bytes reads) at are-bytes in
+    let few : length rs / 256 < 256 = whole (length rs / 256) (List·Memᴰ·tail (List·Memᴰ·head refl)) in
+    let same-length = length-reordered rs ts reordered in
+    let records = bytes-right (countBytes (length rs)) (flatMap recordBytes rs) whole in
+    sheet-written k ts few-inputs (reordered-sized k rs ts reordered (sheet-sized k sheetFile rs reads)) (omega arith)
+    (λ r m o n.
+    let one = flatMap-bytes recordBytes rs records r (reordered-in ts rs (λ s. sym (reordered s)) m) in
+    flatMap-bytes outputBytes (r .recorded) (bytes-right (wordBytes (r .word)) (flatMap outputBytes (r .recorded)) one) o n o (List·Memᴰ·head refl))
+
+-- So nothing is asked but the records: of a sheet that reads well, and of its records written out in another order, the judge says the same.
+pub reordered-does-not-matter : (dossierFile sheetFile : List ℕ) (rs ts : List SheetRecord)
+    → ((d : DossierData) → readDossier dossierFile ≡ fine d → readSheet (d .inputs) sheetFile ≡ fine rs) → Reordered rs ts
+    → SameVerdict (judgeAnswer dossierFile sheetFile) (judgeAnswer dossierFile (sheetBytes ts)) × (judgedPart dossierFile sheetFile ≡ judgedPart dossierFile (sheetBytes ts))
+reordered-does-not-matter dossierFile sheetFile rs ts read reordered =
+    order-does-not-matter dossierFile sheetFile (sheetBytes ts) rs ts (λ d reads. let one = read d reads in (one, reordered-reads (d .inputs) sheetFile rs ts one reordered)) reordered
+
+-- The same of whatever the promises allow: of any programs that keep them.
+pub allowed-reordered-does-not-matter : (dossierFile sheetFile : List ℕ) (rs ts : List SheetRecord) (r s : Judged) (part other : List ℕ)
+    → ((d : DossierData) → readDossier dossierFile ≡ fine d → readSheet (d .inputs) sheetFile ≡ fine rs) → Reordered rs ts
+    → JudgePromise dossierFile sheetFile r → JudgePromise dossierFile (sheetBytes ts) s → JudgeWordPromise dossierFile sheetFile part → JudgeWordPromise dossierFile (sheetBytes ts) other
+    → SameVerdict r s × (part ≡ other)
+allowed-reordered-does-not-matter dossierFile sheetFile rs ts r s part other read reordered =
+    allowed-order-does-not-matter dossierFile sheetFile (sheetBytes ts) rs ts r s part other (λ d reads. let one = read d reads in (one, reordered-reads (d .inputs) sheetFile rs ts one reordered)) reordered

@@ -64,7 +64,7 @@ reads-output : Reads Anything output (λ o. Unit {0}) (λ o. outputBytes o)
 unfolding output outputBytes
 reads-output = reads-byte
 
-reads-entry : (n : ℕ) → Reads Anything (entry n) (λ e. e .0 < n) (λ e. entryBytes e)
+pub reads-entry : (n : ℕ) → Reads Anything (entry n) (λ e. e .0 < n) (λ e. entryBytes e)
 unfolding entry entryBytes outputBytes
 reads-entry n =
     reads-steps (reads-judged-byte (λ q. ltb q n) BadTable tt)
