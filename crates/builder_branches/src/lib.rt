@@ -1,5 +1,6 @@
 // What is needed behind the word of a node: middles, and the separating words behind each. The mark of a node is one more
 // than the length of the middles that were put in behind its word, so that no branch is grown twice.
+use rules::Input;
 use trie::Inserted;
 use trie::Stepped;
 use trie::step;
@@ -123,7 +124,7 @@ fn grow_children(
     let mut count = nodes;
     let mut a = 0;
     while a < inputs {
-        let stepped = step(label, first, next, count, node, a);
+        let stepped = step(label, first, next, count, node, Input::numbered(a));
         let Stepped::To(child, more) = stepped else {
             return Grown::Full;
         };

@@ -1,12 +1,12 @@
 // The line of a refusal, with every value of document 01's table.
 use line::Line;
 use line::no_text;
-use line::number_of;
 use line::put_spot;
 use line_writer::add_decimal;
 use line_writer::add_hex;
 use line_writer::put_line_feed;
 use line_writer::put_text;
+use refusals::said;
 use rules::Middle;
 use rules::Refusal;
 ghost use mathlib.Core.Path.{_≡_};
@@ -116,8 +116,9 @@ fn write_refused(r: Refusal, out: &mut [u8]) -> usize
     requires { ⌜ Fits (refusing r) ⌝ }
     ensures { λ n. ⌜ Puts (now (out .entry)) 0 (refusedLine r) (now (out .exit)) n ⌝ }
 {
-    let said = put_text(b"REFUSED", out, 0);
-    let numbered = add_decimal(number_of(r), out, said);
+    let number = said(r).number as usize;
+    let refused = put_text(b"REFUSED", out, 0);
+    let numbered = add_decimal(number, out, refused);
     put_values(r, out, numbered)
 }
 

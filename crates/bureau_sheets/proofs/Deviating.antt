@@ -14,7 +14,7 @@ use Rattle.rules.specs.Words.{Word, Valid, same, isIn}
 use Rattle.rules.specs.Machines.{Machine, machineOf, answer, answerFrom}
 use Rattle.rules.specs.Files.{DossierData, SheetRecord, golden}
 use Rattle.rules.specs.Answers.{refusing}
-use Rattle.rules.specs.Operations.{Outcome, fine, refuse, firstDifference, pair, recordedFor, Paired, judge, deviatingOf, answered}
+use Rattle.rules.specs.Operations.{Outcome, fine, refuse, firstDifference, pair, recordedFor, Paired, judge, deviatingOf, answered, partOf, noPart, deviatingPart, judgedPart}
 use Rattle.rules.specs.Line.{text, line}
 use Rattle.theory.specs.Lists.{At, at-in, at-below, some-injective, found-at}
 use Rattle.theory.specs.Words.{same-true, same-false, differ-same}
@@ -31,7 +31,7 @@ use Rattle.walker.specs.Walks.{Whole}
 use Rattle.walker.proofs.Words.{word-length}
 use Rattle.judge.specs.declared.Examined.the-variants as examined
 use Rattle.judge.specs.Verdicts.{Handed, examination, examinedOf}
-use Rattle.judge.proofs.Examining.{says-judged}
+use Rattle.judge.proofs.Examining.{says-judged, test-part}
 use Rattle.judge_records.specs.Filed.{wordsOf}
 use Rattle.judge_records.proofs.Looking.{word-of-record}
 use Rattle.judge_pairing.specs.Lent.{recordsIn}
@@ -152,6 +152,10 @@ module _ (s : List ℕ) (x : DossierShape) (t : List ℕ) (y : SheetShape) (h : 
             here = this .here;
             filed = (λ k. isIn (sym same-word k) (wordsOf (h .are k))) ∙ word-of-record among;
             step = subst (λ (n : ℕ). n < length w) (sym step) inside;
+            part =
+                ap (λ (o : Outcome Paired). partOf s (answered o (λ p. deviatingPart (p .dossier) (deviatingOf p)) (λ r. noPart))) judged
+                ∙ ap (λ (o : Option (ℕ × Word)). partOf s (deviatingPart d o)) found
+                ∙ test-part s d (rw (h .shape) at (h .stands)) i w (this .here);
             says =
                 ap (λ (o : Outcome Paired). answered o (λ p. judgementLine p (deviatingOf p)) refusedLine) judged
                 ∙ ap (λ (o : Option (ℕ × Word)). judgementLine both o) found
@@ -183,6 +187,10 @@ module _ {s : List ℕ} {x : DossierShape} {t : List ℕ} {y : SheetShape} {i j 
   module _ (p : ℕ) (at : At (wordsAt s (x .tests) (x .count)) i (wordAt s p)) where
     test-is : wordAt s p ≡ f .test
     test-is = some-injective (sym at ∙ rw (f .stands .tests-words) (f .here))
+
+    -- what the judge hands back
+    pub deviating-part : (v : Word) → v ≡ partOf s (judgedPart s t) → v ≡ wordAt s p
+    deviating-part v is = is ∙ f .part ∙ sym test-is
 
     pub deviating-step : j < length (wordAt s p)
     deviating-step = rw test-is (f .step)

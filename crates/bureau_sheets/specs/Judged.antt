@@ -8,7 +8,7 @@ use lib.ListN.{length, getD}
 use Rattle.rules.specs.Words.{Word, isIn}
 use Rattle.rules.specs.Machines.{answer}
 use Rattle.rules.specs.Files.{DossierData, SheetRecord, golden}
-use Rattle.rules.specs.Operations.{firstDifference, recordedFor, Paired, judge, deviatingOf, answered}
+use Rattle.rules.specs.Operations.{firstDifference, recordedFor, Paired, judge, deviatingOf, answered, partOf, judgedPart}
 use Rattle.rules.specs.Line.{text, decimal, line}
 use Rattle.theory.specs.Lists.{At}
 use Rattle.reader.specs.declared.DossierShape.{DossierShape}
@@ -52,4 +52,5 @@ pub record DeviatingAt (s : List ℕ) (x : DossierShape) (t : List ℕ) (y : She
   pub here : At (dossier .tests) i test
   pub filed : isIn test (wordsOf (recordsIn t y)) ≡ true
   pub step : j < length test
+  pub part : partOf s (judgedPart s t) ≡ test
   pub says : judgeLine s t ≡ deviatesOf i j test (getD (answer (golden dossier) test) j 0) (getD (recordedFor (recordsIn t y) test) j 0)

@@ -6,6 +6,7 @@ use bureau_refusals::refused_line;
 use checker::accept;
 use judge::Examined;
 use judge::examine_both;
+use judge::failing_word;
 use line::Line;
 use line::no_text;
 use line_writer::add_decimal;
@@ -18,9 +19,8 @@ use reader::read_sheet;
 use rules::Output;
 use walker::record_end;
 use walker::recorded_output;
-use walker::word_length;
-use walker_collator::same_word;
 use walker_lookup::golden_output_at;
+use walker_lookup::same_word;
 use walker_lookup::word_place;
 ghost use mathlib.Core.Path.{_≡_};
 ghost use mathlib.Core.Bool.{true};
@@ -91,7 +91,7 @@ fn deviates_line(place: usize, step: usize, word: &[u8], expected: Output, recor
     Line { bytes, length }
 }
 
-// The test that deviates, looked up in the dossier, and the outputs looked up in the golden's table and in the sheet.
+// The test that deviates, as the judge hands it back, and the outputs looked up in the golden's table and in the sheet.
 fn deviating_line(
     dossier: &[u8],
     x: DossierShape,
@@ -107,10 +107,13 @@ fn deviating_line(
     let expected = golden_output_at(dossier, x.table, x.inputs, x.states, word, step);
     let record = record_place(dossier, word, sheet, y.records, x.inputs, y.count);
     let recorded = recorded_output(sheet, record, step);
-    let n = word_length(dossier, word);
-    let inputs = word + 1;
-    let end = word + 1 + n;
-    deviates_line(place, step, &dossier[inputs..end], expected, recorded)
+    deviates_line(
+        place,
+        step,
+        failing_word(dossier, sheet),
+        expected,
+        recorded,
+    )
 }
 
 fn examined_line(dossier: &[u8], x: DossierShape, sheet: &[u8], y: SheetShape) -> Line

@@ -332,18 +332,18 @@ module _ {s : List ℕ} {x : DossierShape} {total n : ℕ} {label firsts-of next
         within : e < length F
         within = omega (arith, h .once .counted)
 
-        pub separator-next : not r ≡ false → Trying s x from y node (e + 1)
+        pub separator-next : r ≡ true → Trying s x from y node (e + 1)
         separator-next begun =
             record {
               below = trying .below;
               word-is = trying .word-is;
-              rest = trying .rest ∙ first-later (lackingAt T (wordOf t node)) F e (0, []) within (lacking-is ∙ begun);
+              rest = trying .rest ∙ first-later (lackingAt T (wordOf t node)) F e (0, []) within (lacking-is ∙ ap not begun);
             }
 
-        pub separator-lacks : not r ≡ true → {marks nodes : List ℕ} {c word : ℕ} → Going s x marks nodes c word from y → y < total
+        pub separator-lacks : r ≡ false → {marks nodes : List ℕ} {c word : ℕ} → Going s x marks nodes c word from y → y < total
             → {marks₁ done : List ℕ} → Covering s x marks₁ done c word → c < x .covers → (j : ℕ) → j ≡ getD numbers e 0 → LackOf s x (At c y j)
         separator-lacks lacks {c = c} going less-middles covering less-covers j is =
-            let found = trying .rest ∙ first-here (lackingAt T (wordOf t node)) F e (0, []) within (lacking-is ∙ lacks) in
+            let found = trying .rest ∙ first-here (lackingAt T (wordOf t node)) F e (0, []) within (lacking-is ∙ ap not lacks) in
             middle-found going less-middles covering less-covers _
             (ap (λ (w : Word). foundAt c (getD M y []) (first (lackingAt T w) F)) (sym (trying .word-is))
             ∙ ap (foundAt c (getD M y [])) found

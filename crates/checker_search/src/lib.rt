@@ -4,7 +4,7 @@ use checker_ways::Way;
 use checker_ways::begun;
 use checker_ways::way_of_cover;
 use checker_ways::way_of_middle;
-use checker_ways::wide;
+use numbers::wide_link;
 use reader::DossierShape;
 use trie::mark;
 use walker::word_length;
@@ -66,12 +66,13 @@ pub fn find_missing(
                         Way::To(node) => {
                             let mut e = 0;
                             'separator: while e < n {
-                                if !begun(bytes, places[e], label, first, next, node) {
-                                    let s = wide(numbers[e]);
-                                    found = Lack::At(c, y, s);
-                                    break 'cover;
+                                if begun(bytes, places[e], label, first, next, node) {
+                                    e += 1;
+                                    continue 'separator;
                                 }
-                                e += 1;
+                                let s = wide_link(numbers[e]);
+                                found = Lack::At(c, y, s);
+                                break 'cover;
                             }
                             mark(marks, node);
                             y += 1;

@@ -1,5 +1,7 @@
 // The ways that the search for a missing word goes in the trie of the tests (document 01, refusal 11): along a cover word, along
 // a middle behind it, and along a separating word behind both.
+use numbers::wide_link;
+use rules::Input;
 use trie::Walked;
 use trie::child;
 use trie::is_marked;
@@ -33,9 +35,9 @@ fn walk_middle(
         return Walked::At(from);
     }
     let k = inputs as usize;
-    let up = wide(nodes[(y - 1) / k]);
+    let up = wide_link(nodes[(y - 1) / k]);
     let i = (y - 1) % k;
-    let to = child(label, first, next, up, i as u8);
+    let to = child(label, first, next, up, Input::numbered(i as u8));
     if to == 0 {
         return Walked::Off;
     }
@@ -128,10 +130,4 @@ pub fn begun(
         Walked::At(_) => true,
         Walked::Off => false,
     }
-}
-
-pub fn wide(x: u16) -> usize
-    ensures { λ r. ⌜ r ≡ x ⌝ }
-{
-    x as usize
 }

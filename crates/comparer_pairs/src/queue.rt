@@ -1,5 +1,6 @@
 // The queue of the pairs that have been met. An entry is one number, since a slice of structs cannot be lent: the entry that it
 // was met from, the input, and the pair.
+use numbers::wide_entry;
 use rules::Input;
 use rules::MOST_INPUTS;
 ghost use mathlib.Core.Path.{_≡_};
@@ -27,29 +28,23 @@ pub fn entry(head: usize, input: Input, pair: usize) -> u32
     ((head * INPUTS + (input.number() as usize)) * PAIRS + pair) as u32
 }
 
-fn wide(entry: u32) -> usize
-    ensures { λ r. ⌜ r ≡ entry ⌝ }
-{
-    entry as usize
-}
-
 pub fn pair_at(queue: &[u32], place: usize) -> usize
     requires { ⌜ place < length (now queue) ⌝ }
     ensures { λ r. ⌜ (r ≡ pairAt (now (queue .entry)) place) × (r < pairs) ⌝ }
 {
-    wide(queue[place]) % PAIRS
+    wide_entry(queue[place]) % PAIRS
 }
 
 pub fn parent_at(queue: &[u32], place: usize) -> usize
     requires { ⌜ place < length (now queue) ⌝ }
     ensures { λ r. ⌜ r ≡ parentAt (now (queue .entry)) place ⌝ }
 {
-    wide(queue[place]) / PAIRS / INPUTS
+    wide_entry(queue[place]) / PAIRS / INPUTS
 }
 
 pub fn input_at(queue: &[u32], place: usize) -> Input
     requires { ⌜ place < length (now queue) ⌝ }
     ensures { λ r. ⌜ r .0 ≡ inputAt (now (queue .entry)) place ⌝ }
 {
-    Input::numbered((wide(queue[place]) / PAIRS % INPUTS) as u8)
+    Input::numbered((wide_entry(queue[place]) / PAIRS % INPUTS) as u8)
 }

@@ -1,10 +1,10 @@
 // Answers as one number (docs/INTERFACE.md).
+use numbers::packed_byte;
+use refusals::said;
 use rules::Built;
 use rules::Checked;
 use rules::Compared;
 use rules::Costed;
-use rules::Fault;
-use rules::File;
 use rules::Judged;
 use rules::Middle;
 use rules::Ran;
@@ -12,48 +12,20 @@ use rules::Refusal;
 ghost use mathlib.Core.Path.{_≡_};
 ghost use mathlib.Core.List.{[], _∷_};
 ghost use Prim.Native.Nat.{_+_, _*_, _<_};
-ghost use Rattle.rules.specs.Answers.{fileNumber, faultNumber, well, refusing, checkSays, buildSays, runSays, compareSays, judgeSays, costSays};
+ghost use Rattle.rules.specs.Answers.{well, refusing, checkSays, buildSays, runSays, compareSays, judgeSays, costSays};
 ghost use Rattle.rules.specs.declared.Refusal.the-variants.{Missing};
 ghost use Rattle.theory.specs.Bounds.{Fits, SmallRefusal};
 ghost use Rattle.hegdorvin_packing.specs.Packed.{packed};
 
-pub fn file_number(f: File) -> u64
-    ensures { λ r. ⌜ (r ≡ fileNumber f) × (r < 8) ⌝ }
-{
-    match f {
-        File::Dossier => 1,
-        File::Unit => 2,
-        File::Sheet => 3,
-        File::Output => 4,
-    }
-}
-
-pub fn fault_number(fault: Fault) -> u64
-    ensures { λ r. ⌜ (r ≡ faultNumber fault) × (r < 8) ⌝ }
-{
-    match fault {
-        Fault::TooLong => 1,
-        Fault::CutShort => 2,
-        Fault::BadNumbers => 3,
-        Fault::BadTable => 4,
-        Fault::BadWord => 5,
-        Fault::Trailing => 6,
-    }
-}
-
 // The fields of every answer but MISSING.
-fn plain(number: u64, file: u64, first: usize, second: usize) -> u64
+fn plain(number: u8, file: u8, first: usize, second: usize) -> u64
     requires { ⌜ (number < 32) × (file < 8) × (first < 16777216) × (second < 16777216) ⌝ }
     ensures { λ r. ⌜ r ≡ number + 32 * file + 256 * first + 4294967296 * second ⌝ }
 {
-    number + 32 * file + 256 * (first as u64) + 4294967296 * (second as u64)
-}
-
-// A state, an input or another number of a byte.
-fn wide(x: u8) -> u64
-    ensures { λ r. ⌜ r ≡ x ⌝ }
-{
-    x as u64
+    packed_byte(number)
+        + 32 * packed_byte(file)
+        + 256 * (first as u64)
+        + 4294967296 * (second as u64)
 }
 
 // The inputs of a middle, four bits each.
@@ -66,11 +38,11 @@ fn inputs(y: Middle) -> u64
     let c = y.c;
     let d = y.d;
     let e = y.e;
-    wide(a.number())
-        + 16 * wide(b.number())
-        + 256 * wide(c.number())
-        + 4096 * wide(d.number())
-        + 65536 * wide(e.number())
+    packed_byte(a.number())
+        + 16 * packed_byte(b.number())
+        + 256 * packed_byte(c.number())
+        + 4096 * packed_byte(d.number())
+        + 65536 * packed_byte(e.number())
 }
 
 fn missing(cover: usize, y: Middle, separator: usize) -> u64
@@ -81,27 +53,21 @@ fn missing(cover: usize, y: Middle, separator: usize) -> u64
     43
         + 256 * (cover as u64)
         + 16777216 * (separator as u64)
-        + 1099511627776 * wide(len)
+        + 1099511627776 * packed_byte(len)
         + 8796093022208 * inputs(y)
 }
 
 pub fn refusal(r: Refusal) -> u64
-    requires { ⌜ SmallRefusal r ⌝ }
+    requires { ⌜ Fits (refusing r) ⌝ }
     ensures { λ n. ⌜ n ≡ packed (refusing r) ⌝ }
 {
     match r {
-        Refusal::Malformed(fault, f, p) => plain(fault_number(fault), file_number(f), p, 0),
-        Refusal::NoEmptyWord => plain(7, 1, 0, 0),
-        Refusal::Unreached(q) => plain(8, 1, q.number() as usize, 0),
-        Refusal::NoSeparator => plain(9, 1, 0, 0),
-        Refusal::NotSeparated(p, q) => plain(10, 1, p.number() as usize, q.number() as usize),
-        Refusal::Missing(c, y, s) => missing(c, y, s),
-        Refusal::Repeated(i) => plain(12, 3, i, 0),
-        Refusal::Foreign(i) => plain(13, 3, i, 0),
-        Refusal::Absent(i) => plain(14, 3, i, 0),
-        Refusal::OtherInputs => plain(15, 2, 0, 0),
-        Refusal::TooManyStates => plain(16, 2, 0, 0),
-        Refusal::NoRoom(n) => plain(17, 4, n, 0),
+        Refusal::Missing(cover, y, separator) => missing(cover, y, separator),
+        _ => {
+            let s = said(r);
+            let file = s.file;
+            plain(s.number, file.number(), s.first, s.second)
+        }
     }
 }
 

@@ -5,7 +5,7 @@ use mathlib.Core.Path.{_≡_, refl, sym, _∙_, ap, subst}
 use mathlib.Core.List.{List, flatMap}
 use mathlib.Core.Bool.{not}
 use mathlib.Core.Option.{Option, none, some}
-use lib.ListN.{length, take, drop}
+use lib.ListN.{length, getD, take, drop}
 use Rattle.rules.specs.declared.Judged.{Judged}
 use Rattle.rules.specs.declared.Judged.the-variants as judged
 use Rattle.rules.specs.declared.Refusal.{Refusal}
@@ -14,7 +14,7 @@ use Rattle.rules.specs.Words.{Word, same}
 use Rattle.rules.specs.Machines.{machineOf, answer}
 use Rattle.rules.specs.Files.{DossierData, SheetRecord, golden, wordBytes}
 use Rattle.rules.specs.Answers.{judgeSays}
-use Rattle.rules.specs.Operations.{Outcome, fine, refuse, readSheet, check, firstDifference, pair, recordedFor, deviating, Paired, judge, deviatingOf, judgement, judgeAnswer, answered, Part, noPart, testPart, deviatingPart, judgedPart}
+use Rattle.rules.specs.Operations.{Outcome, fine, refuse, readSheet, check, firstDifference, pair, recordedFor, deviating, Paired, judge, deviatingOf, judgement, judgeAnswer, answered, Part, noPart, partOf, testPart, deviatingPart, judgedPart}
 use Rattle.rules.specs.Promises.{JudgePromise, JudgeWordPromise}
 use Rattle.theory.specs.Lists.{At, found-at}
 use Rattle.theory.specs.Check.{check-accepts}
@@ -69,6 +69,15 @@ module _ (s : List ℕ) (d : DossierData) (stands : DossierStands s (dossierShap
   test-inside =
       let long = word-length s (wordPlace s (testsPlace d) i) test-whole in
       omega (arith, test-whole, test-size, test-place)
+
+  -- What stands there is the test.
+  pub test-part : partOf s (testPart d i t) ≡ t
+  unfolding wordAt
+  test-part =
+      let p = wordPlace s (testsPlace d) i in
+      let size-is : testPart d i t .size ≡ getD s p 0 = sym test-size ∙ word-length s p test-whole in
+      (λ k. take (size-is k) (drop (sym test-place k) s))
+      ∙ sym (word-here s (testsPlace d) (d .inputs) (length (d .tests)) i t (stands .tests) test-at .1)
 
 finding-fine : (o : Outcome (Unit {0})) → findingOf o ≡ Fine → o ≡ fine tt
 finding-fine (fine tt) e = refl

@@ -4,7 +4,6 @@ mod refused;
 
 pub use ran::no_text;
 pub use ran::run_line;
-pub use refused::number_of;
 pub use refused::put_spot;
 pub use refused::write_refusal;
 

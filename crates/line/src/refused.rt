@@ -3,50 +3,16 @@ use line_writer::add_decimal;
 use line_writer::put_byte;
 use line_writer::put_line_feed;
 use line_writer::put_text;
-use rules::Fault;
+use refusals::said;
 use rules::File;
 use rules::Refusal;
 ghost use mathlib.Core.Path.{_≡_};
 ghost use mathlib.Core.List.{[], _∷_};
 ghost use Prim.Native.Nat.{_+_, _≤_};
 ghost use lib.ListN.{length};
-ghost use Rattle.rules.specs.Answers.{faultNumber, numberOf};
 ghost use Rattle.rules.specs.Line.{decimal, letter, refusalLine};
 ghost use Rattle.line_writer.specs.Puts.{Puts, Closes, mostDigits};
 ghost use Rattle.line.specs.Lines.{lineRoom};
-
-fn fault_number(fault: Fault) -> usize
-    ensures { λ r. ⌜ r ≡ faultNumber fault ⌝ }
-{
-    match fault {
-        Fault::TooLong => 1,
-        Fault::CutShort => 2,
-        Fault::BadNumbers => 3,
-        Fault::BadTable => 4,
-        Fault::BadWord => 5,
-        Fault::Trailing => 6,
-    }
-}
-
-// The number of a refusal in document 01's table.
-pub fn number_of(r: Refusal) -> usize
-    ensures { λ n. ⌜ n ≡ numberOf r ⌝ }
-{
-    match r {
-        Refusal::Malformed(fault, _, _) => fault_number(fault),
-        Refusal::NoEmptyWord => 7,
-        Refusal::Unreached(_) => 8,
-        Refusal::NoSeparator => 9,
-        Refusal::NotSeparated(_, _) => 10,
-        Refusal::Missing(_, _, _) => 11,
-        Refusal::Repeated(_) => 12,
-        Refusal::Foreign(_) => 13,
-        Refusal::Absent(_) => 14,
-        Refusal::OtherInputs => 15,
-        Refusal::TooManyStates => 16,
-        Refusal::NoRoom(_) => 17,
-    }
-}
 
 fn initial(file: File) -> u8
     ensures { λ r. ⌜ r ∷ [] ≡ letter file ⌝ }
@@ -74,7 +40,7 @@ pub fn write_refusal(r: Refusal, out: &mut [u8]) -> usize
     requires { ⌜ lineRoom ≤ length (now out) ⌝ }
     ensures { λ n. ⌜ Puts (now (out .entry)) 0 (refusalLine r) (now (out .exit)) n ⌝ }
 {
-    let number = number_of(r);
+    let number = said(r).number as usize;
     let said = put_text(b"REFUSED", out, 0);
     let numbered = add_decimal(number, out, said);
     match r {

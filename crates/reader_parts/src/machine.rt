@@ -1,12 +1,12 @@
 // The numbers and the table of a machine, which a dossier and a unit both have.
 use crate::Sizes;
+use numbers::wide;
 use reader_steps::ByteRead;
 use reader_steps::CountRead;
 use reader_steps::Step;
 use reader_steps::byte_at;
 use reader_steps::count_at;
 use reader_steps::output_at;
-use reader_steps::wide;
 use rules::Fault;
 use rules::MOST_INPUTS;
 use rules::MOST_STATES;

@@ -9,7 +9,6 @@ pub use steps::byte_at;
 pub use steps::count_at;
 pub use steps::output_at;
 pub use steps::outputs_at;
-pub use steps::wide;
 pub use words::inputs_at;
 pub use words::length_at;
 pub use words::words_at;

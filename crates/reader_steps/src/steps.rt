@@ -3,18 +3,13 @@
 use crate::ByteRead;
 use crate::CountRead;
 use crate::Step;
+use numbers::wide;
 use rules::Fault;
 ghost use mathlib.Core.Path.{_≡_};
 ghost use Prim.Native.Nat.{_<_};
 ghost use lib.ListN.{drop};
 ghost use Rattle.rules.specs.Reading.{byte, count, output, many};
 ghost use Rattle.reader_steps.specs.Steps.{byteRead, countRead, step};
-
-pub fn wide(x: u8) -> usize
-    ensures { λ r. ⌜ (r ≡ x) × (r < 256) ⌝ }
-{
-    x as usize
-}
 
 // The one step that looks at the bytes, so the one that finds a file cut short.
 pub fn byte_at(bytes: &[u8], p: usize) -> ByteRead

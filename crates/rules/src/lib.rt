@@ -1,6 +1,8 @@
 // The kinds of number, refusal and answer of document 01. What each one means stands in specs/.
 
 ghost use mathlib.Core.Path.{_≡_};
+ghost use Prim.Native.Nat.{_<_};
+ghost use Rattle.rules.specs.Answers.{fileNumber, faultNumber};
 
 // The four sorts of number. Each is its own type and its field is private, so that no text outside this crate can use one
 // for another without saying so: `numbered` makes one where a file is read, `number` gives its number where an answer is
@@ -94,6 +96,19 @@ pub enum File {
     Output,
 }
 
+impl File {
+    pub fn number(self) -> u8
+        ensures { λ r. ⌜ (r ≡ fileNumber self) × (r < 8) ⌝ }
+    {
+        match self {
+            File::Dossier => 1,
+            File::Unit => 2,
+            File::Sheet => 3,
+            File::Output => 4,
+        }
+    }
+}
+
 // The refusals 1 to 6: what keeps a file from being well formed.
 pub enum Fault {
     TooLong,
@@ -102,6 +117,21 @@ pub enum Fault {
     BadTable,
     BadWord,
     Trailing,
+}
+
+impl Fault {
+    pub fn number(self) -> u8
+        ensures { λ r. ⌜ (r ≡ faultNumber self) × (r < 8) ⌝ }
+    {
+        match self {
+            Fault::TooLong => 1,
+            Fault::CutShort => 2,
+            Fault::BadNumbers => 3,
+            Fault::BadTable => 4,
+            Fault::BadWord => 5,
+            Fault::Trailing => 6,
+        }
+    }
 }
 
 // A middle has at most five inputs: `len` of them, from `a` on. Those beyond are 0.

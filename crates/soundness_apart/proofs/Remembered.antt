@@ -40,8 +40,8 @@ told-apart s x p q place at e =
     ]
 
 -- what was seen of two states, by their numbers
-pub seen-is : (M : Machine) (ws : List Word) (p p′ q q′ : ℕ) (b seen : Bool) → seen ≡ alike M ws p′ q′ → p′ ≡ p → q′ ≡ q → seen ≡ b → alike M ws p q ≡ b
-seen-is M ws p p′ q q′ b seen e is-p is-q is = rw (← is-p, ← is-q, ← e) is
+pub seen-is : (M : Machine) (ws : List Word) (p q q′ : ℕ) (b seen : Bool) → seen ≡ alike M ws p q′ → q′ ≡ q → seen ≡ b → alike M ws p q ≡ b
+seen-is M ws p q q′ b seen e is-q is = rw (← is-q, ← e) is
 
 -- nothing is known at first
 pub none-known : (s : List ℕ) (x : DossierShape) (places : List ℕ) → 64 ≡ length places → KnownAt s x (record { places = places; count = 0 })

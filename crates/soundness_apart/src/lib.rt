@@ -134,23 +134,17 @@ pub struct RowSeen {
     pub known: Known,
 }
 
-fn see_row(bytes: &[u8], x: DossierShape, p: u8, known: Known) -> RowSeen
+fn see_row(bytes: &[u8], x: DossierShape, p: GoldenState, known: Known) -> RowSeen
     requires { ⌜ SeparatingAt (now bytes) x ⌝ }
-    requires { ⌜ p < x .states ⌝ }
+    requires { ⌜ p .0 < x .states ⌝ }
     requires { ⌜ KnownAt (now bytes) x known ⌝ }
-    ensures { λ r. ⌜ (r .found ≡ stateFound (first (alike (goldenAt (now (bytes .entry)) x) (separatorsAt (now (bytes .entry)) x) p) (numbersFrom (p + 1) (x .states - (p + 1))))) × KnownAt (now (bytes .entry)) x (r .known) ⌝ }
+    ensures { λ r. ⌜ (r .found ≡ stateFound (first (alike (goldenAt (now (bytes .entry)) x) (separatorsAt (now (bytes .entry)) x) (p .0)) (numbersFrom (p .0 + 1) (x .states - (p .0 + 1))))) × KnownAt (now (bytes .entry)) x (r .known) ⌝ }
 {
     let states = x.states;
     let mut known = known;
-    let mut q = p + 1;
+    let mut q = p.number() + 1;
     while q < states {
-        let seen = see_pair(
-            bytes,
-            x,
-            GoldenState::numbered(p),
-            GoldenState::numbered(q),
-            known,
-        );
+        let seen = see_pair(bytes, x, p, GoldenState::numbered(q), known);
         let more = seen.known;
         known = more;
         if seen.alike {
@@ -185,7 +179,7 @@ pub fn unseparated(bytes: &[u8], x: DossierShape) -> PairFound
     };
     let mut p = 0;
     while p < states {
-        let row = see_row(bytes, x, p, known);
+        let row = see_row(bytes, x, GoldenState::numbered(p), known);
         let found = row.found;
         match found {
             StateFound::At(q) => {

@@ -26,14 +26,13 @@ fn blank() -> [u8; 64]
     [0u8; 64]
 }
 
-// The number of the state that a word reaches from 0.
-fn reached_by(bytes: &[u8], table: usize, inputs: u8, states: u8, word: usize) -> usize
+// The state that a word reaches from 0.
+fn reached_by(bytes: &[u8], table: usize, inputs: u8, states: u8, word: usize) -> GoldenState
     requires { ⌜ TableAt (now bytes) table inputs states ⌝ }
     requires { ⌜ WordAt (now bytes) word inputs ⌝ }
-    ensures { λ r. ⌜ (r ≡ after (machineAt (now (bytes .entry)) table inputs states) 0 (wordAt (now (bytes .entry)) word)) × (r < states) ⌝ }
+    ensures { λ r. ⌜ (r .0 ≡ after (machineAt (now (bytes .entry)) table inputs states) 0 (wordAt (now (bytes .entry)) word)) × (r .0 < states) ⌝ }
 {
-    let state = golden_after(bytes, table, inputs, states, GoldenState::numbered(0), word);
-    state.number() as usize
+    golden_after(bytes, table, inputs, states, GoldenState::numbered(0), word)
 }
 
 // A mark for each state that a cover word reaches from 0.
@@ -56,7 +55,7 @@ fn reached(
     while 0 < left {
         let n = word_length(bytes, word);
         let state = reached_by(bytes, table, inputs, states, word);
-        marks[state] = 1;
+        marks[state.number() as usize] = 1;
         word = word + 1 + n;
         left -= 1;
     }

@@ -1,5 +1,7 @@
 // Words in a trie: three arrays that the caller lends, with an entry for each node. Node 0 is the root, the empty word. A
 // node has its label, its newest child and its next older sibling, 0 for none. Other arrays hold numbers or marks by node.
+use numbers::wide_link;
+use rules::Input;
 ghost use mathlib.Core.Path.{_≡_};
 ghost use Prim.Native.Nat.{_+_, _≤_, _<_};
 ghost use mathlib.Core.List.{List, [], _∷_};
@@ -27,12 +29,6 @@ pub enum Inserted {
     Full,
 }
 
-fn wide(x: u16) -> usize
-    ensures { λ r. ⌜ r ≡ x ⌝ }
-{
-    x as usize
-}
-
 // The empty trie: one node, the root.
 pub fn start(label: &mut [u8], first: &mut [u16], next: &mut [u16]) -> usize
     requires { ⌜ (0 < length (now label)) × (length (now label) ≤ 65536) ⌝ }
@@ -46,16 +42,17 @@ pub fn start(label: &mut [u8], first: &mut [u16], next: &mut [u16]) -> usize
 }
 
 // The node under p with the label a, or 0.
-pub fn child(label: &[u8], first: &[u16], next: &[u16], p: usize, a: u8) -> usize
+pub fn child(label: &[u8], first: &[u16], next: &[u16], p: usize, a: Input) -> usize
     requires { ⌜ Node (now label) (now first) (now next) p ⌝ }
-    ensures { λ r. ⌜ ((t : Trie) → Holds t (now (label .entry)) (now (first .entry)) (now (next .entry)) → p < size t → r ≡ childIn t p a) ⌝ }
+    ensures { λ r. ⌜ ((t : Trie) → Holds t (now (label .entry)) (now (first .entry)) (now (next .entry)) → p < size t → r ≡ childIn t p (a .0)) ⌝ }
 {
-    let mut j = wide(first[p]);
+    let wanted = a.number();
+    let mut j = wide_link(first[p]);
     while j != 0 {
-        if label[j] == a {
+        if label[j] == wanted {
             return j;
         }
-        j = wide(next[j]);
+        j = wide_link(next[j]);
     }
     0
 }
@@ -67,13 +64,13 @@ fn add(
     next: &mut [u16],
     count: usize,
     p: usize,
-    a: u8,
+    a: Input,
 ) -> usize
     requires { ⌜ Counted (now label) (now first) (now next) count ⌝ }
     requires { ⌜ (p < count) × (count < length (now label)) ⌝ }
-    ensures { λ r. ⌜ (r ≡ count + 1) × ((t : Trie) → Holds t (now (label .entry)) (now (first .entry)) (now (next .entry)) → count ≡ size t → childIn t p a ≡ 0 → Holds (grow t p a) (now (label .exit)) (now (first .exit)) (now (next .exit))) ⌝ }
+    ensures { λ r. ⌜ (r ≡ count + 1) × ((t : Trie) → Holds t (now (label .entry)) (now (first .entry)) (now (next .entry)) → count ≡ size t → childIn t p (a .0) ≡ 0 → Holds (grow t p (a .0)) (now (label .exit)) (now (first .exit)) (now (next .exit))) ⌝ }
 {
-    label[count] = a;
+    label[count] = a.number();
     next[count] = first[p];
     first[p] = count as u16;
     first[count] = 0;
@@ -88,7 +85,7 @@ pub fn walk(label: &[u8], first: &[u16], next: &[u16], p: usize, w: &[u8]) -> Wa
     let mut node = p;
     let mut i = 0;
     while i < w.len() {
-        let j = child(label, first, next, node, w[i]);
+        let j = child(label, first, next, node, Input::numbered(w[i]));
         if j == 0 {
             return Walked::Off;
         }
@@ -105,11 +102,11 @@ pub fn step(
     next: &mut [u16],
     count: usize,
     p: usize,
-    a: u8,
+    a: Input,
 ) -> Stepped
     requires { ⌜ Counted (now label) (now first) (now next) count ⌝ }
     requires { ⌜ p < count ⌝ }
-    ensures { λ r. ⌜ ((t : Trie) → Holds t (now (label .entry)) (now (first .entry)) (now (next .entry)) → count ≡ size t → StepOf t p a (now (label .exit)) (now (first .exit)) (now (next .exit)) r) ⌝ }
+    ensures { λ r. ⌜ ((t : Trie) → Holds t (now (label .entry)) (now (first .entry)) (now (next .entry)) → count ≡ size t → StepOf t p (a .0) (now (label .exit)) (now (first .exit)) (now (next .exit)) r) ⌝ }
 {
     let j = child(label, first, next, p, a);
     if j != 0 {
@@ -139,7 +136,7 @@ pub fn insert_at(
     let mut m = count;
     let mut i = 0;
     while i < w.len() {
-        match step(label, first, next, m, node, w[i]) {
+        match step(label, first, next, m, node, Input::numbered(w[i])) {
             Stepped::To(j, k) => {
                 node = j;
                 m = k;

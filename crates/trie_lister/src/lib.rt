@@ -1,4 +1,5 @@
 // The words of a trie, listed and measured: the maximal ones, in order of inputs, each behind its length byte.
+use rules::Input;
 use trie::child;
 ghost use mathlib.Core.Path.{_≡_};
 ghost use Prim.Native.Nat.{ℕ, _+_, _≤_, _<_};
@@ -70,7 +71,7 @@ pub fn visit(
     let mut pos = at;
     let mut a = 0;
     while a < k {
-        let j = child(label, first, next, node, a);
+        let j = child(label, first, next, node, Input::numbered(a));
         if j == 0 {
             a += 1;
             continue;
@@ -129,7 +130,7 @@ pub fn measure(
     let mut pos = at;
     let mut a = 0;
     while a < k {
-        let j = child(label, first, next, node, a);
+        let j = child(label, first, next, node, Input::numbered(a));
         if j == 0 {
             a += 1;
             continue;

@@ -27,13 +27,13 @@ module _ (s : List ℕ) (p k n q i : ℕ) (hq : q < n) (hi : i < k) where
   pub output-at : machineAt s p k n .output q i ≡ outputAt s (p + entryWidth * (q * k + i) + 1)
   output-at = ap (λ (e : ℕ × ℕ). e .1) (entry-at s p (n * k) (q * k + i) (entry-inside n k q i hq hi))
 
--- and where its place r was found, from the input as a byte
-module _ (s : List ℕ) (p k n q i i′ r : ℕ) (at : TableAt s p k n) (hq : q < n) (hi : i < k) (is : i′ ≡ i) (e : r ≡ p + entryWidth * (q * k + i′)) where
+-- and where its place r was found
+module _ (s : List ℕ) (p k n q i r : ℕ) (at : TableAt s p k n) (hq : q < n) (hi : i < k) (e : r ≡ p + entryWidth * (q * k + i)) where
   pub next-found : (getD s r 0 ≡ machineAt s p k n .next q i) × (getD s r 0 < n)
-  next-found = rw (e, is) (sym (next-at s p k n q i hq hi), at .closed (q * k + i) (entry-inside n k q i hq hi))
+  next-found = rw e (sym (next-at s p k n q i hq hi), at .closed (q * k + i) (entry-inside n k q i hq hi))
 
   pub output-found : outputAt s (r + 1) ≡ machineAt s p k n .output q i
-  output-found = rw (e, is) (sym (output-at s p k n q i hq hi))
+  output-found = rw e (sym (output-at s p k n q i hq hi))
 
 -- the outputs of a record
 pub outputs-length : (s : List ℕ) (p c : ℕ) → length (outputsAt s p c) ≡ c

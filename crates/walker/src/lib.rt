@@ -1,6 +1,7 @@
 // Words and tables where they stand in the bytes of a file: entries looked up, words walked. A golden state, a unit state, an
 // input and an output are four sorts, so the look-ups of golden and unit are two sets of functions.
 
+use numbers::wide;
 use rules::GoldenState;
 use rules::Input;
 use rules::Output;
@@ -23,12 +24,6 @@ const ENTRY_WIDTH: usize = 1 + OUTPUT_WIDTH;
 pub enum Difference {
     Nowhere,
     At(usize),
-}
-
-fn wide(byte: u8) -> usize
-    ensures { λ r. ⌜ (r ≡ byte) × (r < 256) ⌝ }
-{
-    byte as usize
 }
 
 fn product(a: u8, b: u8) -> usize
@@ -63,23 +58,36 @@ pub fn input_at(bytes: &[u8], word: usize, inputs: u8, step: usize) -> Input
     Input::numbered(input_byte(bytes, word, step))
 }
 
-// The place of the entry of a state and an input in a table.
-fn entry_place(bytes: &[u8], table: usize, inputs: u8, states: u8, state: u8, input: u8) -> usize
+// The place of the entry of a golden state and an input in a table. Golden and unit have such a function each, so that no state of
+// one is looked up as the other's.
+fn golden_entry(
+    bytes: &[u8],
+    table: usize,
+    inputs: u8,
+    states: u8,
+    state: GoldenState,
+    input: Input,
+) -> usize
     requires { ⌜ TableAt (now bytes) table inputs states ⌝ }
-    requires { ⌜ (state < states) × (input < inputs) ⌝ }
-    ensures { λ r. ⌜ (r ≡ table + entryWidth * (state * inputs + input)) × (state * inputs + input < states * inputs) ⌝ }
+    requires { ⌜ (state .0 < states) × (input .0 < inputs) ⌝ }
+    ensures { λ r. ⌜ (r ≡ table + entryWidth * (state .0 * inputs + input .0)) × (state .0 * inputs + input .0 < states * inputs) ⌝ }
 {
-    table + ENTRY_WIDTH * (product(state, inputs) + wide(input))
+    table + ENTRY_WIDTH * (product(state.number(), inputs) + wide(input.number()))
 }
 
-// The next state that a table has for a state and an input, as a byte.
-fn table_next(bytes: &[u8], table: usize, inputs: u8, states: u8, state: u8, input: Input) -> u8
+fn unit_entry(
+    bytes: &[u8],
+    table: usize,
+    inputs: u8,
+    states: u8,
+    state: UnitState,
+    input: Input,
+) -> usize
     requires { ⌜ TableAt (now bytes) table inputs states ⌝ }
-    requires { ⌜ (state < states) × (input .0 < inputs) ⌝ }
-    ensures { λ r. ⌜ (r ≡ machineAt (now (bytes .entry)) table inputs states .next state (input .0)) × (r < states) ⌝ }
+    requires { ⌜ (state .0 < states) × (input .0 < inputs) ⌝ }
+    ensures { λ r. ⌜ (r ≡ table + entryWidth * (state .0 * inputs + input .0)) × (state .0 * inputs + input .0 < states * inputs) ⌝ }
 {
-    let place = entry_place(bytes, table, inputs, states, state, input.number());
-    bytes[place]
+    table + ENTRY_WIDTH * (product(state.number(), inputs) + wide(input.number()))
 }
 
 // The output that stands at a place.
@@ -88,23 +96,6 @@ fn output_at(bytes: &[u8], place: usize) -> Output
     ensures { λ r. ⌜ r .0 ≡ outputAt (now (bytes .entry)) place ⌝ }
 {
     Output::numbered(bytes[place])
-}
-
-// The output that a table has for a state and an input.
-fn table_output(
-    bytes: &[u8],
-    table: usize,
-    inputs: u8,
-    states: u8,
-    state: u8,
-    input: Input,
-) -> Output
-    requires { ⌜ TableAt (now bytes) table inputs states ⌝ }
-    requires { ⌜ (state < states) × (input .0 < inputs) ⌝ }
-    ensures { λ r. ⌜ r .0 ≡ machineAt (now (bytes .entry)) table inputs states .output state (input .0) ⌝ }
-{
-    let place = entry_place(bytes, table, inputs, states, state, input.number());
-    output_at(bytes, place + 1)
 }
 
 pub fn golden_next(
@@ -119,7 +110,8 @@ pub fn golden_next(
     requires { ⌜ (state .0 < states) × (input .0 < inputs) ⌝ }
     ensures { λ r. ⌜ (r .0 ≡ machineAt (now (bytes .entry)) table inputs states .next (state .0) (input .0)) × (r .0 < states) ⌝ }
 {
-    GoldenState::numbered(table_next(bytes, table, inputs, states, state.number(), input))
+    let place = golden_entry(bytes, table, inputs, states, state, input);
+    GoldenState::numbered(bytes[place])
 }
 
 pub fn golden_output(
@@ -134,7 +126,8 @@ pub fn golden_output(
     requires { ⌜ (state .0 < states) × (input .0 < inputs) ⌝ }
     ensures { λ r. ⌜ r .0 ≡ machineAt (now (bytes .entry)) table inputs states .output (state .0) (input .0) ⌝ }
 {
-    table_output(bytes, table, inputs, states, state.number(), input)
+    let place = golden_entry(bytes, table, inputs, states, state, input);
+    output_at(bytes, place + 1)
 }
 
 pub fn unit_next(
@@ -149,7 +142,8 @@ pub fn unit_next(
     requires { ⌜ (state .0 < states) × (input .0 < inputs) ⌝ }
     ensures { λ r. ⌜ (r .0 ≡ machineAt (now (bytes .entry)) table inputs states .next (state .0) (input .0)) × (r .0 < states) ⌝ }
 {
-    UnitState::numbered(table_next(bytes, table, inputs, states, state.number(), input))
+    let place = unit_entry(bytes, table, inputs, states, state, input);
+    UnitState::numbered(bytes[place])
 }
 
 pub fn unit_output(
@@ -164,7 +158,8 @@ pub fn unit_output(
     requires { ⌜ (state .0 < states) × (input .0 < inputs) ⌝ }
     ensures { λ r. ⌜ r .0 ≡ machineAt (now (bytes .entry)) table inputs states .output (state .0) (input .0) ⌝ }
 {
-    table_output(bytes, table, inputs, states, state.number(), input)
+    let place = unit_entry(bytes, table, inputs, states, state, input);
+    output_at(bytes, place + 1)
 }
 
 // The place after the record at a place.

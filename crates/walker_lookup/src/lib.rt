@@ -1,19 +1,22 @@
-// Where a test stands in its dossier, and what golden and unit output at a step of a word.
+// Where a test stands in its dossier, what golden and unit output at a step of it, and whether another word is the same.
 use rules::GoldenState;
 use rules::Output;
 use rules::UnitState;
 use walker::golden_next;
 use walker::golden_output;
 use walker::input_at;
+use walker::input_byte;
 use walker::unit_next;
 use walker::unit_output;
 use walker::word_length;
 ghost use mathlib.Core.Path.{_≡_};
 ghost use Prim.Native.Nat.{_<_};
 ghost use lib.ListN.{length, getD};
+ghost use Rattle.rules.specs.Words.{same};
 ghost use Rattle.rules.specs.Machines.{answer};
 ghost use Rattle.theory.specs.Lists.{At};
 ghost use Rattle.reader.specs.Places.{machineAt, wordAt, wordsAt, TableAt, WordAt, WordsAt};
+ghost use Rattle.walker.specs.Walks.{Whole};
 
 // The place of the word of a number among those that stand from `first` on.
 pub fn word_place(bytes: &[u8], first: usize, inputs: u8, count: usize, number: usize) -> usize
@@ -79,4 +82,25 @@ pub fn unit_output_at(
     }
     let input = input_at(dossier, word, inputs, i);
     unit_output(unit, table, inputs, states, state, input)
+}
+
+// Whether two words are the same.
+pub fn same_word(one: &[u8], p: usize, other: &[u8], q: usize) -> bool
+    requires { ⌜ Whole (now one) p ⌝ }
+    requires { ⌜ Whole (now other) q ⌝ }
+    ensures { λ r. ⌜ r ≡ same (wordAt (now (one .entry)) p) (wordAt (now (other .entry)) q) ⌝ }
+{
+    let n = word_length(one, p);
+    let m = word_length(other, q);
+    if n != m {
+        return false;
+    }
+    let mut step = 0;
+    while step < n {
+        if input_byte(one, p, step) != input_byte(other, q, step) {
+            return false;
+        }
+        step += 1;
+    }
+    true
 }

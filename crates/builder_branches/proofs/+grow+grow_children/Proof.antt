@@ -20,6 +20,7 @@ use Rattle.builder_branches.proofs.put_separators.Reads as put-separato
 use Rattle.trie.proofs.step.Reads as step-reads
 use Rattle.builder_branches.proofs.+grow+grow_children.{statement}
 use Rattle.builder_branches.proofs.+grow+grow_children.Tie.{close}
+use Rattle.rules.proofs.Input.numbered.Reads as numbered-reads
 
 abbrev μ-grow : Measures 6 grow-kinds.ps ℕ
 μ-grow κs a = suc (a .1 .1 .1 .1 .1 .1 .1 .1 .1 .1 .0 + a .1 .1 .1 .1 .1 .1 .1 .1 .1 .1 .0)
@@ -50,7 +51,7 @@ abbrev grow-claims : ℕ → grow-lts.Claims
 grow-claims t = (put-separators-reads.Asked, put-separators-reads.Learnt, grow-children-below t, grow-children.Post)
 
 abbrev grow-children-claims : ℕ → grow-children-lts.Claims
-grow-children-claims t = (step-reads.Asked, step-reads.Learnt, grow-below t, grow.Post)
+grow-children-claims t = (numbered-reads.Asked, numbered-reads.Learnt, step-reads.Asked, step-reads.Learnt, grow-below t, grow.Post)
 
 grow-slice-read-if1 : (t : ℕ) → grow-lts.Need-slice-read-if1 (grow-claims t) (grow-at t) grow.Post
 grow-slice-read-if1 t c =
@@ -170,9 +171,12 @@ grow-children-loop-holds : (t : ℕ) → grow-children-lts.Need-loop-holds (grow
 grow-children-loop-holds t c =
     (search needs, refl, refl, refl, refl, λ x h e d. turning-start _ _ x _ _ _ _ _ _ _ h e d)
 
+grow-children-numbered-requires : (t : ℕ) → grow-children-lts.Need-numbered-requires (grow-children-claims t) (grow-children-at t) grow-children.Post grow-children-Inv-loop grow-children-μ-loop
+grow-children-numbered-requires t c κs = search needs
+
 grow-children-step-requires : (t : ℕ) → grow-children-lts.Need-step-requires (grow-children-claims t) (grow-children-at t) grow-children.Post grow-children-Inv-loop grow-children-μ-loop
 grow-children-step-requires t c κs =
-    let p = c .before .before .before .before .before .before .before .before .before .before .before .before .pre .1 in let v = p .1 .0 in turning-counted _ _ (v .trie) _ _ _ _ _ _ _ _ (c .before .before .before .before .loop .inv .5 (v .trie) (v .holds) (v .counted) (v .marked)) (omega (arith, p .1 .1 .0, v .counted))
+    let p = c .before .before .before .before .before .before .before .before .before .before .before .before .before .pre .1 in let v = p .1 .0 in turning-counted _ _ (v .trie) _ _ _ _ _ _ _ _ (c .before .before .before .before .before .loop .inv .5 (v .trie) (v .holds) (v .counted) (v .marked)) (omega (arith, p .1 .1 .0, v .counted))
 
 grow-children-enum-known-stepped : (t : ℕ) → grow-children-lts.Need-enum-known-stepped (grow-children-claims t) (grow-children-at t) grow-children.Post grow-children-Inv-loop grow-children-μ-loop
 grow-children-enum-known-stepped t c = search needs
@@ -182,33 +186,33 @@ grow-children-enum-told t c = search needs
 
 grow-children-same-length : (t : ℕ) → grow-children-lts.Need-same-length (grow-children-claims t) (grow-children-at t) grow-children.Post grow-children-Inv-loop grow-children-μ-loop
 grow-children-same-length t c =
-    c .before .before .before .before .before .before .before .before .step .kept .0 ∙ c .before .before .before .before .before .before .before .before .before .before .before .before .before .loop .inv .1
+    c .before .before .before .before .before .before .before .before .step .kept .0 ∙ c .before .before .before .before .before .before .before .before .before .before .before .before .before .before .loop .inv .1
 
 grow-children-same-length-2 : (t : ℕ) → grow-children-lts.Need-same-length-2 (grow-children-claims t) (grow-children-at t) grow-children.Post grow-children-Inv-loop grow-children-μ-loop
 grow-children-same-length-2 t c =
-    c .before .before .before .before .before .before .before .before .step .kept .1 .0 ∙ c .before .before .before .before .before .before .before .before .before .before .before .before .before .loop .inv .2
+    c .before .before .before .before .before .before .before .before .step .kept .1 .0 ∙ c .before .before .before .before .before .before .before .before .before .before .before .before .before .before .loop .inv .2
 
 grow-children-same-length-3 : (t : ℕ) → grow-children-lts.Need-same-length-3 (grow-children-claims t) (grow-children-at t) grow-children.Post grow-children-Inv-loop grow-children-μ-loop
 grow-children-same-length-3 t c =
-    c .before .before .before .before .before .before .before .before .step .kept .1 .1 .0 ∙ c .before .before .before .before .before .before .before .before .before .before .before .before .before .loop .inv .3
+    c .before .before .before .before .before .before .before .before .step .kept .1 .1 .0 ∙ c .before .before .before .before .before .before .before .before .before .before .before .before .before .before .loop .inv .3
 
 grow-children-same-length-4 : (t : ℕ) → grow-children-lts.Need-same-length-4 (grow-children-claims t) (grow-children-at t) grow-children.Post grow-children-Inv-loop grow-children-μ-loop
 grow-children-same-length-4 t c =
-    c .before .before .before .before .before .before .before .before .before .before .before .before .before .loop .inv .4
+    c .before .before .before .before .before .before .before .before .before .before .before .before .before .before .loop .inv .4
 
 grow-children-returns-2 : (t : ℕ) → grow-children-lts.Need-returns-2 (grow-children-claims t) (grow-children-at t) grow-children.Post grow-children-Inv-loop grow-children-μ-loop
 grow-children-returns-2 t c =
-    let p = c .before .before .before .before .before .before .before .before .before .before .before .before .before .before .before .before .before .before .before .before .before .pre .1 in λ x h e d backs. step-full _ _ x _ _ _ _ _ _ _ _ (c .before .before .before .before .before .before .before .before .before .before .before .before .before .loop .inv .5 x h e d) (omega (arith, p .1 .1 .0)) (c .before .before .before .before .before .before .before .before .before .before .before .before .loop-test .taken) (omega (arith, c .before .before .before .before .before .before .before .before .before .before .before .before .before .before .if1 .left)) _ (record { number = 0; below = p .0 .one; stands = refl }) _ _ _ _ (c .before .before .before .before .before .before .before .before .step .ensures) (c .enum-told .given .1)
+    let p = c .before .before .before .before .before .before .before .before .before .before .before .before .before .before .before .before .before .before .before .before .before .before .pre .1 in λ x h e d backs. step-full _ _ x _ _ _ _ _ _ _ _ (c .before .before .before .before .before .before .before .before .before .before .before .before .before .before .loop .inv .5 x h e d) (omega (arith, p .1 .1 .0)) (c .before .before .before .before .before .before .before .before .before .before .before .before .before .loop-test .taken) (omega (arith, c .before .before .before .before .before .before .before .before .before .before .before .before .before .before .before .if1 .left)) _ (record { number = 0; below = p .0 .one; stands = refl }) _ _ _ _ (λ t′ h′ e′. rw (c .before .before .before .before .before .before .before .before .before .numbered .ensures) at (c .before .before .before .before .before .before .before .before .step .ensures t′ h′ e′)) (c .enum-told .given .1)
 
 grow-children-sub-grow : (t : ℕ) → grow-children-lts.Need-sub-grow (grow-children-claims t) (grow-children-at t) grow-children.Post grow-children-Inv-loop grow-children-μ-loop
 grow-children-sub-grow t c =
-    omega (arith, c .before .before .before .before .before .before .before .before .before .before .before .before .before .before .before .before .before .before .before .if1 .left)
+    omega (arith, c .before .before .before .before .before .before .before .before .before .before .before .before .before .before .before .before .before .before .before .before .if1 .left)
 
 grow-children-grow-requires : (t : ℕ) → grow-children-lts.Need-grow-requires (grow-children-claims t) (grow-children-at t) grow-children.Post grow-children-Inv-loop grow-children-μ-loop
 grow-children-grow-requires t c κs =
-    let p = c .before .before .before .before .before .before .before .before .before .before .before .before .before .before .before .before .before .before .before .before .before .before .before .before .before .before .pre .1 in let v = p .1 .0 in
-    let ready = step-ready _ _ (v .trie) _ _ _ _ _ _ _ _ (c .before .before .before .before .before .before .before .before .before .before .before .before .before .before .before .before .before .before .loop .inv .5 (v .trie) (v .holds) (v .counted) (v .marked)) (omega (arith, p .1 .1 .0, v .counted)) (c .before .before .before .before .before .before .before .before .before .before .before .before .before .before .before .before .before .loop-test .taken) (omega (arith, c .before .before .before .before .before .before .before .before .before .before .before .before .before .before .before .before .before .before .before .if1 .left)) _ (record { number = 0; below = p .0 .one; stands = refl }) _ _ _ _ (c .before .before .before .before .before .before .before .before .before .before .before .before .before .step .ensures) _ _ (c .before .before .before .before .before .stepped .given .1) in
-    (omega (arith, c .before .before .before .before .before .before .before .before .before .before .before .before .before .before .before .before .before .before .before .before .before .before .before .before .before .before .pre .0, c .before .before .before .before .before .before .before .before .before .before .before .before .before .before .before .before .before .before .before .if1 .left), (p .0, (ready .0, (ready .1, omega (arith, p .1 .1 .1), omega (arith, c .before .before .before .before .before .before .before .before .before .before .before .before .before .before .before .before .before .before .loop .inv .4, p .1 .1 .2, c .before .before .before .before .before .before .before .before .before .before .before .before .before .step .kept .0, c .before .before .before .before .before .before .before .before .before .before .before .before .before .before .before .before .before .before .loop .inv .1)))))
+    let p = c .before .before .before .before .before .before .before .before .before .before .before .before .before .before .before .before .before .before .before .before .before .before .before .before .before .before .before .pre .1 in let v = p .1 .0 in
+    let ready = step-ready _ _ (v .trie) _ _ _ _ _ _ _ _ (c .before .before .before .before .before .before .before .before .before .before .before .before .before .before .before .before .before .before .before .loop .inv .5 (v .trie) (v .holds) (v .counted) (v .marked)) (omega (arith, p .1 .1 .0, v .counted)) (c .before .before .before .before .before .before .before .before .before .before .before .before .before .before .before .before .before .before .loop-test .taken) (omega (arith, c .before .before .before .before .before .before .before .before .before .before .before .before .before .before .before .before .before .before .before .before .if1 .left)) _ (record { number = 0; below = p .0 .one; stands = refl }) _ _ _ _ (λ t′ h′ e′. rw (c .before .before .before .before .before .before .before .before .before .before .before .before .before .before .numbered .ensures) at (c .before .before .before .before .before .before .before .before .before .before .before .before .before .step .ensures t′ h′ e′)) _ _ (c .before .before .before .before .before .stepped .given .1) in
+    (omega (arith, c .before .before .before .before .before .before .before .before .before .before .before .before .before .before .before .before .before .before .before .before .before .before .before .before .before .before .before .pre .0, c .before .before .before .before .before .before .before .before .before .before .before .before .before .before .before .before .before .before .before .before .if1 .left), (p .0, (ready .0, (ready .1, omega (arith, p .1 .1 .1), omega (arith, c .before .before .before .before .before .before .before .before .before .before .before .before .before .before .before .before .before .before .before .loop .inv .4, p .1 .1 .2, c .before .before .before .before .before .before .before .before .before .before .before .before .before .step .kept .0, c .before .before .before .before .before .before .before .before .before .before .before .before .before .before .before .before .before .before .before .loop .inv .1)))))
 
 grow-children-enum-known-grown : (t : ℕ) → grow-children-lts.Need-enum-known-grown (grow-children-claims t) (grow-children-at t) grow-children.Post grow-children-Inv-loop grow-children-μ-loop
 grow-children-enum-known-grown t c = search needs
@@ -218,39 +222,39 @@ grow-children-enum-told-2 t c = search needs
 
 grow-children-same-length-5 : (t : ℕ) → grow-children-lts.Need-same-length-5 (grow-children-claims t) (grow-children-at t) grow-children.Post grow-children-Inv-loop grow-children-μ-loop
 grow-children-same-length-5 t c =
-    c .before .before .before .before .before .before .before .before .before .before .grow .kept .1 .1 .1 .1 .0 ∙ c .before .before .before .before .before .before .before .before .before .before .before .before .before .before .before .before .before .before .before .before .before .before .before .before .step .kept .0 ∙ c .before .before .before .before .before .before .before .before .before .before .before .before .before .before .before .before .before .before .before .before .before .before .before .before .before .before .before .before .before .loop .inv .1
+    c .before .before .before .before .before .before .before .before .before .before .grow .kept .1 .1 .1 .1 .0 ∙ c .before .before .before .before .before .before .before .before .before .before .before .before .before .before .before .before .before .before .before .before .before .before .before .before .step .kept .0 ∙ c .before .before .before .before .before .before .before .before .before .before .before .before .before .before .before .before .before .before .before .before .before .before .before .before .before .before .before .before .before .before .loop .inv .1
 
 grow-children-same-length-6 : (t : ℕ) → grow-children-lts.Need-same-length-6 (grow-children-claims t) (grow-children-at t) grow-children.Post grow-children-Inv-loop grow-children-μ-loop
 grow-children-same-length-6 t c =
-    c .before .before .before .before .before .before .before .before .before .before .grow .kept .1 .1 .1 .1 .1 .0 ∙ c .before .before .before .before .before .before .before .before .before .before .before .before .before .before .before .before .before .before .before .before .before .before .before .before .step .kept .1 .0 ∙ c .before .before .before .before .before .before .before .before .before .before .before .before .before .before .before .before .before .before .before .before .before .before .before .before .before .before .before .before .before .loop .inv .2
+    c .before .before .before .before .before .before .before .before .before .before .grow .kept .1 .1 .1 .1 .1 .0 ∙ c .before .before .before .before .before .before .before .before .before .before .before .before .before .before .before .before .before .before .before .before .before .before .before .before .step .kept .1 .0 ∙ c .before .before .before .before .before .before .before .before .before .before .before .before .before .before .before .before .before .before .before .before .before .before .before .before .before .before .before .before .before .before .loop .inv .2
 
 grow-children-same-length-7 : (t : ℕ) → grow-children-lts.Need-same-length-7 (grow-children-claims t) (grow-children-at t) grow-children.Post grow-children-Inv-loop grow-children-μ-loop
 grow-children-same-length-7 t c =
-    c .before .before .before .before .before .before .before .before .before .before .grow .kept .1 .1 .1 .1 .1 .1 .0 ∙ c .before .before .before .before .before .before .before .before .before .before .before .before .before .before .before .before .before .before .before .before .before .before .before .before .step .kept .1 .1 .0 ∙ c .before .before .before .before .before .before .before .before .before .before .before .before .before .before .before .before .before .before .before .before .before .before .before .before .before .before .before .before .before .loop .inv .3
+    c .before .before .before .before .before .before .before .before .before .before .grow .kept .1 .1 .1 .1 .1 .1 .0 ∙ c .before .before .before .before .before .before .before .before .before .before .before .before .before .before .before .before .before .before .before .before .before .before .before .before .step .kept .1 .1 .0 ∙ c .before .before .before .before .before .before .before .before .before .before .before .before .before .before .before .before .before .before .before .before .before .before .before .before .before .before .before .before .before .before .loop .inv .3
 
 grow-children-same-length-8 : (t : ℕ) → grow-children-lts.Need-same-length-8 (grow-children-claims t) (grow-children-at t) grow-children.Post grow-children-Inv-loop grow-children-μ-loop
 grow-children-same-length-8 t c =
-    c .before .before .before .before .before .before .before .before .before .before .grow .kept .1 .1 .1 .1 .1 .1 .1 .0 ∙ c .before .before .before .before .before .before .before .before .before .before .before .before .before .before .before .before .before .before .before .before .before .before .before .before .before .before .before .before .before .loop .inv .4
+    c .before .before .before .before .before .before .before .before .before .before .grow .kept .1 .1 .1 .1 .1 .1 .1 .0 ∙ c .before .before .before .before .before .before .before .before .before .before .before .before .before .before .before .before .before .before .before .before .before .before .before .before .before .before .before .before .before .before .loop .inv .4
 
 grow-children-returns-3 : (t : ℕ) → grow-children-lts.Need-returns-3 (grow-children-claims t) (grow-children-at t) grow-children.Post grow-children-Inv-loop grow-children-μ-loop
 grow-children-returns-3 t c =
-    let p = c .before .before .before .before .before .before .before .before .before .before .before .before .before .before .before .before .before .before .before .before .before .before .before .before .before .before .before .before .before .before .before .before .before .before .before .before .before .pre .1 in λ x h e d backs. child-full _ _ x _ _ _ _ _ _ _ _ (c .before .before .before .before .before .before .before .before .before .before .before .before .before .before .before .before .before .before .before .before .before .before .before .before .before .before .before .before .before .loop .inv .5 x h e d) (omega (arith, p .1 .1 .0)) (c .before .before .before .before .before .before .before .before .before .before .before .before .before .before .before .before .before .before .before .before .before .before .before .before .before .before .before .before .loop-test .taken) (omega (arith, c .before .before .before .before .before .before .before .before .before .before .before .before .before .before .before .before .before .before .before .before .before .before .before .before .before .before .before .before .before .before .if1 .left)) _ (record { number = 0; below = p .0 .one; stands = refl }) _ _ _ _ (c .before .before .before .before .before .before .before .before .before .before .before .before .before .before .before .before .before .before .before .before .before .before .before .before .step .ensures) _ _ (c .before .before .before .before .before .before .before .before .before .before .before .before .before .before .before .before .stepped .given .1) _ _ _ _ _ (c .before .before .before .before .before .before .before .before .before .before .grow .ensures) (c .enum-told2 .given .1)
+    let p = c .before .before .before .before .before .before .before .before .before .before .before .before .before .before .before .before .before .before .before .before .before .before .before .before .before .before .before .before .before .before .before .before .before .before .before .before .before .before .pre .1 in λ x h e d backs. child-full _ _ x _ _ _ _ _ _ _ _ (c .before .before .before .before .before .before .before .before .before .before .before .before .before .before .before .before .before .before .before .before .before .before .before .before .before .before .before .before .before .before .loop .inv .5 x h e d) (omega (arith, p .1 .1 .0)) (c .before .before .before .before .before .before .before .before .before .before .before .before .before .before .before .before .before .before .before .before .before .before .before .before .before .before .before .before .before .loop-test .taken) (omega (arith, c .before .before .before .before .before .before .before .before .before .before .before .before .before .before .before .before .before .before .before .before .before .before .before .before .before .before .before .before .before .before .before .if1 .left)) _ (record { number = 0; below = p .0 .one; stands = refl }) _ _ _ _ (λ t′ h′ e′. rw (c .before .before .before .before .before .before .before .before .before .before .before .before .before .before .before .before .before .before .before .before .before .before .before .before .before .numbered .ensures) at (c .before .before .before .before .before .before .before .before .before .before .before .before .before .before .before .before .before .before .before .before .before .before .before .before .step .ensures t′ h′ e′)) _ _ (c .before .before .before .before .before .before .before .before .before .before .before .before .before .before .before .before .stepped .given .1) _ _ _ _ _ (c .before .before .before .before .before .before .before .before .before .before .grow .ensures) (c .enum-told2 .given .1)
 
 grow-children-add-a : (t : ℕ) → grow-children-lts.Need-add-a (grow-children-claims t) (grow-children-at t) grow-children.Post grow-children-Inv-loop grow-children-μ-loop
-grow-children-add-a t c = omega (arith, c .before .before .before .before .before .before .before .before .before .before .before .before .before .before .before .before .before .before .before .before .before .before .before .before .before .before .before .before .before .loop-test .taken, c .before .before .before .before .before .before .before .before .before .before .before .before .before .before .before .before .before .before .before .before .before .before .before .before .before .before .before .before .before .before .before .before .before .before .before .before .before .before .fits)
+grow-children-add-a t c = omega (arith, c .before .before .before .before .before .before .before .before .before .before .before .before .before .before .before .before .before .before .before .before .before .before .before .before .before .before .before .before .before .before .loop-test .taken, c .before .before .before .before .before .before .before .before .before .before .before .before .before .before .before .before .before .before .before .before .before .before .before .before .before .before .before .before .before .before .before .before .before .before .before .before .before .before .before .fits)
 
 grow-children-loop-less : (t : ℕ) → grow-children-lts.Need-loop-less (grow-children-claims t) (grow-children-at t) grow-children.Post grow-children-Inv-loop grow-children-μ-loop
 grow-children-loop-less t c = search needs
 
 grow-children-loop-again : (t : ℕ) → grow-children-lts.Need-loop-again (grow-children-claims t) (grow-children-at t) grow-children.Post grow-children-Inv-loop grow-children-μ-loop
 grow-children-loop-again t c =
-    let p = c .before .before .before .before .before .before .before .before .before .before .before .before .before .before .before .before .before .before .before .before .before .before .before .before .before .before .before .before .before .before .before .before .before .before .before .before .before .before .pre .1 in (
-      omega (arith, c .before .before .before .before .before .before .before .before .before .before .before .before .before .before .before .before .before .before .before .before .before .before .before .before .before .before .before .before .before .loop-test .taken),
-      c .before .before .before .before .before .before .before .before .before .before .before .grow .kept .1 .1 .1 .1 .0 ∙ c .before .before .before .before .before .before .before .before .before .before .before .before .before .before .before .before .before .before .before .before .before .before .before .before .before .step .kept .0 ∙ c .before .before .before .before .before .before .before .before .before .before .before .before .before .before .before .before .before .before .before .before .before .before .before .before .before .before .before .before .before .before .loop .inv .1,
-      c .before .before .before .before .before .before .before .before .before .before .before .grow .kept .1 .1 .1 .1 .1 .0 ∙ c .before .before .before .before .before .before .before .before .before .before .before .before .before .before .before .before .before .before .before .before .before .before .before .before .before .step .kept .1 .0 ∙ c .before .before .before .before .before .before .before .before .before .before .before .before .before .before .before .before .before .before .before .before .before .before .before .before .before .before .before .before .before .before .loop .inv .2,
-      c .before .before .before .before .before .before .before .before .before .before .before .grow .kept .1 .1 .1 .1 .1 .1 .0 ∙ c .before .before .before .before .before .before .before .before .before .before .before .before .before .before .before .before .before .before .before .before .before .before .before .before .before .step .kept .1 .1 .0 ∙ c .before .before .before .before .before .before .before .before .before .before .before .before .before .before .before .before .before .before .before .before .before .before .before .before .before .before .before .before .before .before .loop .inv .3,
-      c .before .before .before .before .before .before .before .before .before .before .before .grow .kept .1 .1 .1 .1 .1 .1 .1 .0 ∙ c .before .before .before .before .before .before .before .before .before .before .before .before .before .before .before .before .before .before .before .before .before .before .before .before .before .before .before .before .before .before .loop .inv .4,
-      λ x h e d. child-next _ _ x _ _ _ _ _ _ _ _ (c .before .before .before .before .before .before .before .before .before .before .before .before .before .before .before .before .before .before .before .before .before .before .before .before .before .before .before .before .before .before .loop .inv .5 x h e d) (omega (arith, p .1 .1 .0)) (c .before .before .before .before .before .before .before .before .before .before .before .before .before .before .before .before .before .before .before .before .before .before .before .before .before .before .before .before .before .loop-test .taken) (omega (arith, c .before .before .before .before .before .before .before .before .before .before .before .before .before .before .before .before .before .before .before .before .before .before .before .before .before .before .before .before .before .before .before .if1 .left)) _ (record { number = 0; below = p .0 .one; stands = refl }) _ _ _ _ (c .before .before .before .before .before .before .before .before .before .before .before .before .before .before .before .before .before .before .before .before .before .before .before .before .before .step .ensures) _ _ (c .before .before .before .before .before .before .before .before .before .before .before .before .before .before .before .before .before .stepped .given .1) _ _ _ _ _ (c .before .before .before .before .before .before .before .before .before .before .before .grow .ensures) _ (c .before .grown .given .1),
+    let p = c .before .before .before .before .before .before .before .before .before .before .before .before .before .before .before .before .before .before .before .before .before .before .before .before .before .before .before .before .before .before .before .before .before .before .before .before .before .before .before .pre .1 in (
+      omega (arith, c .before .before .before .before .before .before .before .before .before .before .before .before .before .before .before .before .before .before .before .before .before .before .before .before .before .before .before .before .before .before .loop-test .taken),
+      c .before .before .before .before .before .before .before .before .before .before .before .grow .kept .1 .1 .1 .1 .0 ∙ c .before .before .before .before .before .before .before .before .before .before .before .before .before .before .before .before .before .before .before .before .before .before .before .before .before .step .kept .0 ∙ c .before .before .before .before .before .before .before .before .before .before .before .before .before .before .before .before .before .before .before .before .before .before .before .before .before .before .before .before .before .before .before .loop .inv .1,
+      c .before .before .before .before .before .before .before .before .before .before .before .grow .kept .1 .1 .1 .1 .1 .0 ∙ c .before .before .before .before .before .before .before .before .before .before .before .before .before .before .before .before .before .before .before .before .before .before .before .before .before .step .kept .1 .0 ∙ c .before .before .before .before .before .before .before .before .before .before .before .before .before .before .before .before .before .before .before .before .before .before .before .before .before .before .before .before .before .before .before .loop .inv .2,
+      c .before .before .before .before .before .before .before .before .before .before .before .grow .kept .1 .1 .1 .1 .1 .1 .0 ∙ c .before .before .before .before .before .before .before .before .before .before .before .before .before .before .before .before .before .before .before .before .before .before .before .before .before .step .kept .1 .1 .0 ∙ c .before .before .before .before .before .before .before .before .before .before .before .before .before .before .before .before .before .before .before .before .before .before .before .before .before .before .before .before .before .before .before .loop .inv .3,
+      c .before .before .before .before .before .before .before .before .before .before .before .grow .kept .1 .1 .1 .1 .1 .1 .1 .0 ∙ c .before .before .before .before .before .before .before .before .before .before .before .before .before .before .before .before .before .before .before .before .before .before .before .before .before .before .before .before .before .before .before .loop .inv .4,
+      λ x h e d. child-next _ _ x _ _ _ _ _ _ _ _ (c .before .before .before .before .before .before .before .before .before .before .before .before .before .before .before .before .before .before .before .before .before .before .before .before .before .before .before .before .before .before .before .loop .inv .5 x h e d) (omega (arith, p .1 .1 .0)) (c .before .before .before .before .before .before .before .before .before .before .before .before .before .before .before .before .before .before .before .before .before .before .before .before .before .before .before .before .before .before .loop-test .taken) (omega (arith, c .before .before .before .before .before .before .before .before .before .before .before .before .before .before .before .before .before .before .before .before .before .before .before .before .before .before .before .before .before .before .before .before .if1 .left)) _ (record { number = 0; below = p .0 .one; stands = refl }) _ _ _ _ (λ t′ h′ e′. rw (c .before .before .before .before .before .before .before .before .before .before .before .before .before .before .before .before .before .before .before .before .before .before .before .before .before .before .numbered .ensures) at (c .before .before .before .before .before .before .before .before .before .before .before .before .before .before .before .before .before .before .before .before .before .before .before .before .before .step .ensures t′ h′ e′)) _ _ (c .before .before .before .before .before .before .before .before .before .before .before .before .before .before .before .before .before .stepped .given .1) _ _ _ _ _ (c .before .before .before .before .before .before .before .before .before .before .before .grow .ensures) _ (c .before .grown .given .1),
     )
 
 grow-children-same-length-9 : (t : ℕ) → grow-children-lts.Need-same-length-9 (grow-children-claims t) (grow-children-at t) grow-children.Post grow-children-Inv-loop grow-children-μ-loop
@@ -274,7 +278,12 @@ grow-children-returns-4 t c =
     let p = c .before .before .before .before .before .before .before .before .before .pre .1 in λ x h e d backs. turning-end _ _ x _ _ _ _ _ _ _ _ (c .before .loop .inv .5 x h e d) (omega (arith, p .1 .1 .0)) (c .loop-test .left) backs
 
 pub +grow+grow-children-spec : {M : Type 1} → statement M
-+grow+grow-children-spec = close μ-grow μ-grow-children (λ t. grow-lts.spec (grow-claims t)
++grow+grow-children-spec = close μ-grow μ-grow-children (λ t. grow-lts.spec (
+  put-separators-reads.Asked,
+  put-separators-reads.Learnt,
+  grow-children-below t,
+  grow-children.Post,
+)
     (grow-at t)
     grow.Post
     (grow-slice-read-if1 t)
@@ -302,14 +311,21 @@ pub +grow+grow-children-spec : {M : Type 1} → statement M
     (grow-same-length-11 t)
     (grow-same-length-12 t)
     (grow-returns-4 t))
-    λ t. grow-children-lts.spec
-    (step-reads.Asked, step-reads.Learnt, grow-below t, grow.Post)
+    λ t. grow-children-lts.spec (
+      numbered-reads.Asked,
+      numbered-reads.Learnt,
+      step-reads.Asked,
+      step-reads.Learnt,
+      grow-below t,
+      grow.Post,
+    )
     (grow-children-at t)
     grow-children.Post
     grow-children-Inv-loop
     grow-children-μ-loop
     (grow-children-returns t)
     (grow-children-loop-holds t)
+    (grow-children-numbered-requires t)
     (grow-children-step-requires t)
     (grow-children-enum-known-stepped t)
     (grow-children-enum-told t)

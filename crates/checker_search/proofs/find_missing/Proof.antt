@@ -14,7 +14,7 @@ use Rattle.walker.proofs.word_length.Reads as word-length-reads
 use Rattle.checker_ways.proofs.begun.Reads as begun-reads
 use Rattle.checker_ways.proofs.way_of_cover.Reads as way-of-cover-reads
 use Rattle.checker_ways.proofs.way_of_middle.Reads as way-of-middle-reads
-use Rattle.checker_ways.proofs.wide.Reads as wide-reads
+use Rattle.numbers.proofs.wide_link.Reads as wide-link-reads
 
 abbrev Inv-separator : tie.InvT-separator
 Inv-separator bytes x total label first next marks done nodes numbers places n found₀ c word after from y node e₀ found e = (found ≡ Nowhere) × Trying bytes x from y node e
@@ -119,17 +119,6 @@ begun-requires :
     tie.Need-begun-requires Inv-separator μ-separator Inv-middle μ-middle Inv-cover μ-cover
 begun-requires c κs = let by-separator-test = c .before in let by-separator = by-separator-test .before in let start = by-separator .before .before .before .before .before .before .before .before .before .before .before .before .before .before .before .before .before .before .before .before .before .before .before .before .before .before .before .before .before in (place-whole (start .pre) (by-separator .separator .inv .1) (by-separator-test .separator-test .taken), node-there (start .pre) (by-separator .separator .inv .1))
 
-mul-wide : tie.Need-mul-wide Inv-separator μ-separator Inv-middle μ-middle Inv-cover μ-cover
-mul-wide c = let by-separator-test = c .before .before .before in let start = by-separator-test .before .before .before .before .before .before .before .before .before .before .before .before .before .before .before .before .before .before .before .before .before .before .before .before .before .before .before .before .before .before in omega (arith, few-firsts (start .pre), by-separator-test .separator-test .taken)
-
-shared-slice-read-wide :
-    tie.Need-shared-slice-read-wide Inv-separator μ-separator Inv-middle μ-middle Inv-cover μ-cover
-shared-slice-read-wide c = let by-separator-test = c .before .before .before .before in let start = by-separator-test .before .before .before .before .before .before .before .before .before .before .before .before .before .before .before .before .before .before .before .before .before .before .before .before .before .before .before .before .before .before in omega (arith, start .pre .numbers-long, by-separator-test .separator-test .taken)
-
-wide-requires :
-    tie.Need-wide-requires Inv-separator μ-separator Inv-middle μ-middle Inv-cover μ-cover
-wide-requires c κs = search needs
-
 add-e : tie.Need-add-e Inv-separator μ-separator Inv-middle μ-middle Inv-cover μ-cover
 add-e c = let by-separator-test = c .before .before .before in let start = by-separator-test .before .before .before .before .before .before .before .before .before .before .before .before .before .before .before .before .before .before .before .before .before .before .before .before .before .before .before .before .before .before in omega (arith, few-firsts (start .pre), by-separator-test .separator-test .taken)
 
@@ -139,7 +128,25 @@ separator-less c = let by-separator-test = c .before .before .before in omega (a
 
 separator-again :
     tie.Need-separator-again Inv-separator μ-separator Inv-middle μ-middle Inv-cover μ-cover
-separator-again c = let by-begun = c .before in let by-separator-test = by-begun .before .before in let by-separator = by-separator-test .before in let start = by-separator .before .before .before .before .before .before .before .before .before .before .before .before .before .before .before .before .before .before .before .before .before .before .before .before .before .before .before .before .before in (by-separator .separator .inv .0, separator-next (start .pre) (by-separator .separator .inv .1) (by-separator-test .separator-test .taken) _ (by-begun .begun .ensures) (c .if2 .left))
+separator-again c = let by-begun = c .before in let by-separator-test = by-begun .before .before in let by-separator = by-separator-test .before in let start = by-separator .before .before .before .before .before .before .before .before .before .before .before .before .before .before .before .before .before .before .before .before .before .before .before .before .before .before .before .before .before in (by-separator .separator .inv .0, separator-next (start .pre) (by-separator .separator .inv .1) (by-separator-test .separator-test .taken) _ (by-begun .begun .ensures) (c .if2 .taken))
+
+mul-wide-link :
+    tie.Need-mul-wide-link Inv-separator μ-separator Inv-middle μ-middle Inv-cover μ-cover
+mul-wide-link c = let by-separator-test = c .before .before .before in let start = by-separator-test .before .before .before .before .before .before .before .before .before .before .before .before .before .before .before .before .before .before .before .before .before .before .before .before .before .before .before .before .before .before in omega (arith, few-firsts (start .pre), by-separator-test .separator-test .taken)
+
+shared-slice-read-wide-link :
+    tie.Need-shared-slice-read-wide-link
+    Inv-separator
+    μ-separator
+    Inv-middle
+    μ-middle
+    Inv-cover
+    μ-cover
+shared-slice-read-wide-link c = let by-separator-test = c .before .before .before .before in let start = by-separator-test .before .before .before .before .before .before .before .before .before .before .before .before .before .before .before .before .before .before .before .before .before .before .before .before .before .before .before .before .before .before in omega (arith, start .pre .numbers-long, by-separator-test .separator-test .taken)
+
+wide-link-requires :
+    tie.Need-wide-link-requires Inv-separator μ-separator Inv-middle μ-middle Inv-cover μ-cover
+wide-link-requires c κs = search needs
 
 mark-requires :
     tie.Need-mark-requires Inv-separator μ-separator Inv-middle μ-middle Inv-cover μ-cover
@@ -228,7 +235,7 @@ same-length-12 :
 same-length-12 c = let by-way-of-middle = c .before .before .before .before .before .before .before .before .before .before .before .before in let by-middle = by-way-of-middle .before .before .before .before in let by-cover = by-middle .before .before .before .before .before .before .before .before .before in by-way-of-middle .way-of-middle .kept .1 .1 .1 .1 .1 .1 .0 ∙ by-middle .middle .inv .2 ∙ by-cover .cover .inv .3
 
 returns-4 : tie.Need-returns-4 Inv-separator μ-separator Inv-middle μ-middle Inv-cover μ-cover
-returns-4 c = let by-if2 = c .before .before in let by-begun = by-if2 .before in let by-separator-test = by-begun .before .before in let by-separator = by-separator-test .before in let by-middle-test = by-separator .before .before .before .before .before .before .before .before .before in let by-middle = by-middle-test .before in let by-if1 = by-middle .before .before .before .before .before .before .before in let by-cover = by-if1 .before .before in let start = by-cover .before .before .before .before .before .before .before .before .before .before in separator-lacks (start .pre) (by-separator .separator .inv .1) (by-separator-test .separator-test .taken) _ (by-begun .begun .ensures) (by-if2 .if2 .taken) (by-middle .middle .inv .3) (by-middle-test .middle-test .taken) (by-cover .cover .inv .4) (by-if1 .if1 .taken) _ (c .wide .ensures)
+returns-4 c = let by-if2 = c .before .before in let by-begun = by-if2 .before in let by-separator-test = by-begun .before .before in let by-separator = by-separator-test .before in let by-middle-test = by-separator .before .before .before .before .before .before .before .before .before in let by-middle = by-middle-test .before in let by-if1 = by-middle .before .before .before .before .before .before .before in let by-cover = by-if1 .before .before in let start = by-cover .before .before .before .before .before .before .before .before .before .before in separator-lacks (start .pre) (by-separator .separator .inv .1) (by-separator-test .separator-test .taken) _ (by-begun .begun .ensures) (by-if2 .if2 .left) (by-middle .middle .inv .3) (by-middle-test .middle-test .taken) (by-cover .cover .inv .4) (by-if1 .if1 .taken) _ (c .wide-link .ensures)
 
 pub find-missing-spec : {M : Type 1} → statement M
 find-missing-spec =
@@ -263,12 +270,12 @@ find-missing-spec =
     mul-begun
     shared-slice-read-begun
     begun-requires
-    mul-wide
-    shared-slice-read-wide
-    wide-requires
     add-e
     separator-less
     separator-again
+    mul-wide-link
+    shared-slice-read-wide-link
+    wide-link-requires
     mark-requires
     add-y-2
     middle-less-2

@@ -1,7 +1,6 @@
 use mathlib.Core.Path.{refl}
 use native.Mathlib.Omega.{arith}
 use Rattle.hegdorvin_packing.proofs.Laws.{plain-packed}
-use Rattle.hegdorvin_packing.proofs.Small.{fits-small}
 use borrow.Author.Needs.{needs}
 use Rattle.hegdorvin_packing.proofs.checked.Statement.{statement}
 use Rattle.hegdorvin_packing.proofs.checked.Tie as tie
@@ -20,7 +19,7 @@ enum-known-r : tie.Need-enum-known-r
 enum-known-r c = search needs
 
 refusal-requires : tie.Need-refusal-requires
-refusal-requires c κs = let by-r = c .before in let start = by-r .before .before in fits-small (by-r .r .given .0 .0) (rw (by-r .r .given .1) at (start .pre))
+refusal-requires c κs = let by-r = c .before in let start = by-r .before .before in rw (by-r .r .given .1) at (start .pre)
 
 returns : tie.Need-returns
 returns c = let by-enum-told = c .before in rw (by-enum-told .enum-told .given .1) (plain-packed _ _ _ _ _ _ (c .plain .ensures) refl refl refl refl (λ h. omega arith))

@@ -1,7 +1,6 @@
 use mathlib.Core.Path.{refl}
 use native.Mathlib.Omega.{arith}
 use Rattle.hegdorvin_packing.proofs.Laws.{plain-packed}
-use Rattle.hegdorvin_packing.proofs.Small.{fits-small}
 use borrow.Author.Needs.{needs}
 use Rattle.hegdorvin_packing.proofs.ran.Statement.{statement}
 use Rattle.hegdorvin_packing.proofs.ran.Tie as tie
@@ -26,7 +25,7 @@ enum-known-r-3 : tie.Need-enum-known-r-3
 enum-known-r-3 c = search needs
 
 refusal-requires : tie.Need-refusal-requires
-refusal-requires c κs = let by-r3 = c .before in let start = by-r3 .before .before in fits-small (by-r3 .r3 .given .0 .0) (rw (by-r3 .r3 .given .1) at (start .pre))
+refusal-requires c κs = let by-r3 = c .before in let start = by-r3 .before .before in rw (by-r3 .r3 .given .1) at (start .pre)
 
 returns : tie.Need-returns
 returns c = let by-r = c .before .before in rw (by-r .r .given .1) (plain-packed _ _ _ _ _ _ (c .plain .ensures) refl refl refl refl (λ h. omega arith))

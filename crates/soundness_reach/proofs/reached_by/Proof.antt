@@ -15,16 +15,8 @@ numbered-requires c κs = search needs
 golden-after-requires : tie.Need-golden-after-requires
 golden-after-requires c κs = search needs
 
-number-requires : tie.Need-number-requires
-number-requires c κs = search needs
-
-cast-result : tie.Need-cast-result
-cast-result c = search needs
-
 returns : tie.Need-returns
-returns c = (c .number .ensures ∙ c .before .golden-after .ensures .0 ∙ rw (c .before .before .numbered .ensures), omega (arith, c .number .ensures, c .before .golden-after .ensures .1))
+returns c = (c .golden-after .ensures .0 ∙ rw (c .before .numbered .ensures), c .golden-after .ensures .1)
 
 pub reached-by-spec : {M : Type 1} → statement M
-reached-by-spec =
-    tie.close
-    (tie.spec numbered-requires golden-after-requires number-requires cast-result returns)
+reached-by-spec = tie.close (tie.spec numbered-requires golden-after-requires returns)

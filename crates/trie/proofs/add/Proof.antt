@@ -3,6 +3,12 @@ use Rattle.trie.proofs.Chain.{grown}
 use borrow.Author.Needs.{needs}
 use Rattle.trie.proofs.add.Statement.{statement}
 use Rattle.trie.proofs.add.Tie as tie
+use Rattle.trie.proofs.add.Reads as reads
+use Rattle.trie.proofs.add.Lts as lts
+use Rattle.rules.proofs.Input.number.Reads as number-reads
+
+number-requires : tie.Need-number-requires
+number-requires c κs = search needs
 
 slice-write-label : tie.Need-slice-write-label
 slice-write-label c = search needs
@@ -47,14 +53,13 @@ same-length-3 : tie.Need-same-length-3
 same-length-3 c = search needs
 
 returns : tie.Need-returns
-returns c =
-    let s = c .before in
-    (refl, λ t h k new. grown t _ _ _ _ _ _ h k (s .pre .1 .0) (s .pre .1 .1) new)
+returns c = let s = c .before .before .before .before .before in (refl, λ t h k new. rw (c .before .number .ensures) (grown t _ _ _ _ _ _ h k (s .pre .1 .0) (s .pre .1 .1) new))
 
 pub add-spec : {M : Type 1} → statement M
 add-spec =
     tie.close
     (tie.spec
+    number-requires
     slice-write-label
     mul-next
     slice-read-next

@@ -53,7 +53,7 @@ same-length-9 c = search needs
 returns-3 : tie.Need-returns-3
 returns-3 c = λ t h k.
     let s = c .before .before .before .before .before .before .before .before .before in let a = s .args in
-    step-full t (a .p) (a .a) _ (c .before .before .child .ensures t h (omega (arith, s .pre .1))) (a .label .now) (a .first .now) (a .next .now) (a .count) k (c .before .if1 .left) (c .if2 .left)
+    step-full t (a .p) (a .a .0) _ (c .before .before .child .ensures t h (omega (arith, s .pre .1))) (a .label .now) (a .first .now) (a .next .now) (a .count) k (c .before .if1 .left) (c .if2 .left)
 
 pub step-spec : {M : Type 1} → statement M
 step-spec =

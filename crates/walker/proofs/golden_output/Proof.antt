@@ -1,16 +1,25 @@
-use borrow.Author.Needs.{needs}
 use mathlib.Core.Path.{_∙_}
+use Rattle.walker.proofs.Tables.{output-found}
+use borrow.Author.Needs.{needs}
 use Rattle.walker.proofs.golden_output.Statement.{statement}
 use Rattle.walker.proofs.golden_output.Tie as tie
+use Rattle.walker.proofs.golden_output.Reads as reads
+use Rattle.walker.proofs.golden_output.Lts as lts
+use Rattle.walker.proofs.golden_entry.Reads as golden-entry-reads
+use Rattle.walker.proofs.output_at.Reads as output-at-reads
 
-number-requires : tie.Need-number-requires
-number-requires c κs = search needs
+golden-entry-requires : tie.Need-golden-entry-requires
+golden-entry-requires c κs = search needs
 
-table-output-requires : tie.Need-table-output-requires
-table-output-requires c κs = search needs
+add-output-at : tie.Need-add-output-at
+add-output-at c = search needs
+
+output-at-requires : tie.Need-output-at-requires
+output-at-requires c κs = search needs
 
 returns : tie.Need-returns
-returns c = c .table-output .ensures ∙ rw (c .before .number .ensures)
+returns c = let start = c .before .before .before in let a = start .args in c .output-at .ensures ∙ output-found (a .bytes .now) (a .table) (a .inputs) (a .states) (a .state .0) (a .input .0) _ (start .pre .0) (start .pre .1 .0) (start .pre .1 .1) (c .before .golden-entry .ensures .0)
 
 pub golden-output-spec : {M : Type 1} → statement M
-golden-output-spec = tie.close (tie.spec number-requires table-output-requires returns)
+golden-output-spec =
+    tie.close (tie.spec golden-entry-requires add-output-at output-at-requires returns)

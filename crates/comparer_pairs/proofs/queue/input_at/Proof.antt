@@ -4,14 +4,14 @@ use borrow.Author.Needs.{needs}
 use Rattle.comparer_pairs.proofs.queue.input_at.Statement.{statement}
 use Rattle.comparer_pairs.proofs.queue.input_at.Tie as tie
 
-mul-wide : tie.Need-mul-wide
-mul-wide c = search needs
+mul-wide-entry : tie.Need-mul-wide-entry
+mul-wide-entry c = search needs
 
-shared-slice-read-wide : tie.Need-shared-slice-read-wide
-shared-slice-read-wide c = search needs
+shared-slice-read-wide-entry : tie.Need-shared-slice-read-wide-entry
+shared-slice-read-wide-entry c = search needs
 
-wide-requires : tie.Need-wide-requires
-wide-requires c κs = search needs
+wide-entry-requires : tie.Need-wide-entry-requires
+wide-entry-requires c κs = search needs
 
 cast-numbered : tie.Need-cast-numbered
 cast-numbered c = search needs
@@ -21,15 +21,15 @@ numbered-requires c κs = search needs
 
 returns : tie.Need-returns
 unfolding inputAt stepAt
-returns c = c .numbered .ensures ∙ rw (c .before .wide .ensures)
+returns c = c .numbered .ensures ∙ rw (c .before .wide-entry .ensures)
 
 pub input-at-spec : {M : Type 1} → statement M
 input-at-spec =
     tie.close
     (tie.spec
-    mul-wide
-    shared-slice-read-wide
-    wide-requires
+    mul-wide-entry
+    shared-slice-read-wide-entry
+    wide-entry-requires
     cast-numbered
     numbered-requires
     returns)

@@ -2,9 +2,19 @@ use Rattle.line.proofs.Spots.{no-spot, refused-at, refused-only}
 use borrow.Author.Needs.{needs}
 use Rattle.line.proofs.refused.write_refusal.Statement.{statement}
 use Rattle.line.proofs.refused.write_refusal.Tie as tie
+use Rattle.line.proofs.refused.write_refusal.Reads as reads
+use Rattle.line.proofs.refused.write_refusal.Lts as lts
+use Rattle.line.proofs.refused.put_spot.Reads as put-spot-reads
+use Rattle.line_writer.proofs.add_decimal.Reads as add-decimal-reads
+use Rattle.line_writer.proofs.put_line_feed.Reads as put-line-feed-reads
+use Rattle.line_writer.proofs.put_text.Reads as put-text-reads
+use Rattle.refusals.proofs.said.Reads as said-reads
 
-number-of-requires : tie.Need-number-of-requires
-number-of-requires c κs = search needs
+said-requires : tie.Need-said-requires
+said-requires c κs = search needs
+
+cast-number : tie.Need-cast-number
+cast-number c = search needs
 
 slice-aggregate-put-text : tie.Need-slice-aggregate-put-text
 slice-aggregate-put-text c = search needs
@@ -28,19 +38,20 @@ same-length : tie.Need-same-length
 same-length c = search needs
 
 returns : tie.Need-returns
-returns c = refused-at _ _ (c .before .before .before .before .before .before .before .before .before .before .before .before .before .before .before .before .number-of .ensures) _ _ _ _ _ _ _ _ (c .before .before .before .before .before .before .before .before .before .before .before .before .before .put-text .ensures) (c .before .before .before .before .before .before .before .before .before .add-decimal .ensures .0) _ _ _ (c .before .before .before .before .before .r .given .1) (c .before .before .put-spot .ensures)
+returns c = refused-at _ _ (c .before .before .before .before .before .before .before .before .before .before .before .before .before .before .before .before .before .said .ensures .0) _ _ _ _ _ _ _ _ (c .before .before .before .before .before .before .before .before .before .before .before .before .before .put-text .ensures) (c .before .before .before .before .before .before .before .before .before .add-decimal .ensures .0) _ _ _ (c .before .before .before .before .before .r .given .1) (c .before .before .put-spot .ensures)
 
 same-length-2 : tie.Need-same-length-2
 same-length-2 c = search needs
 
 returns-2 : tie.Need-returns-2
-returns-2 c = let r = c .before .before .before .before .before .before .before .before .before .before .before .before .before .before .before .before .args .r in refused-only r _ (c .before .before .before .before .before .before .before .before .before .before .before .before .before .before .number-of .ensures) _ _ _ _ _ _ _ _ (c .before .before .before .before .before .before .before .before .before .before .before .put-text .ensures) (c .before .before .before .before .before .before .before .add-decimal .ensures .0) (no-spot r (c .before .before .before .before .match .keys2)) (c .before .before .put-line-feed .ensures)
+returns-2 c = let r = c .before .before .before .before .before .before .before .before .before .before .before .before .before .before .before .before .before .args .r in refused-only r _ (c .before .before .before .before .before .before .before .before .before .before .before .before .before .before .before .said .ensures .0) _ _ _ _ _ _ _ _ (c .before .before .before .before .before .before .before .before .before .before .before .put-text .ensures) (c .before .before .before .before .before .before .before .add-decimal .ensures .0) (no-spot r (c .before .before .before .before .match .keys2)) (c .before .before .put-line-feed .ensures)
 
 pub write-refusal-spec : {M : Type 1} → statement M
 write-refusal-spec =
     tie.close
     (tie.spec
-    number-of-requires
+    said-requires
+    cast-number
     slice-aggregate-put-text
     put-text-requires
     add-decimal-requires
