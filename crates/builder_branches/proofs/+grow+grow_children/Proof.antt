@@ -202,7 +202,7 @@ grow-children-same-length-4 t c =
 
 grow-children-returns-2 : (t : ℕ) → grow-children-lts.Need-returns-2 (grow-children-claims t) (grow-children-at t) grow-children.Post grow-children-Inv-loop grow-children-μ-loop
 grow-children-returns-2 t c =
-    let p = c .before .before .before .before .before .before .before .before .before .before .before .before .before .before .before .before .before .before .before .before .before .before .pre .1 in λ x h e d backs. step-full _ _ x _ _ _ _ _ _ _ _ (c .before .before .before .before .before .before .before .before .before .before .before .before .before .before .loop .inv .5 x h e d) (omega (arith, p .1 .1 .0)) (c .before .before .before .before .before .before .before .before .before .before .before .before .before .loop-test .taken) (omega (arith, c .before .before .before .before .before .before .before .before .before .before .before .before .before .before .before .if1 .left)) _ (record { number = 0; below = p .0 .one; stands = refl }) _ _ _ _ (λ t′ h′ e′. rw (c .before .before .before .before .before .before .before .before .before .numbered .ensures) at (c .before .before .before .before .before .before .before .before .step .ensures t′ h′ e′)) (c .enum-told .given .1)
+    let p = c .before .before .before .before .before .before .before .before .before .before .before .before .before .before .before .before .before .before .before .before .before .before .pre .1 in λ x h e d backs. step-full _ _ x _ _ _ _ _ _ _ _ (c .before .before .before .before .before .before .before .before .before .before .before .before .before .before .loop .inv .5 x h e d) (omega (arith, p .1 .1 .0)) (omega (arith, c .before .before .before .before .before .before .before .before .before .before .before .before .before .loop-test .taken)) (omega (arith, c .before .before .before .before .before .before .before .before .before .before .before .before .before .before .before .if1 .left)) _ (record { number = 0; below = p .0 .one; stands = refl }) _ _ _ _ (λ t′ h′ e′. rw (c .before .before .before .before .before .before .before .before .before .numbered .ensures) at (c .before .before .before .before .before .before .before .before .step .ensures t′ h′ e′)) (c .enum-told .given .1)
 
 grow-children-sub-grow : (t : ℕ) → grow-children-lts.Need-sub-grow (grow-children-claims t) (grow-children-at t) grow-children.Post grow-children-Inv-loop grow-children-μ-loop
 grow-children-sub-grow t c =
@@ -211,7 +211,7 @@ grow-children-sub-grow t c =
 grow-children-grow-requires : (t : ℕ) → grow-children-lts.Need-grow-requires (grow-children-claims t) (grow-children-at t) grow-children.Post grow-children-Inv-loop grow-children-μ-loop
 grow-children-grow-requires t c κs =
     let p = c .before .before .before .before .before .before .before .before .before .before .before .before .before .before .before .before .before .before .before .before .before .before .before .before .before .before .before .pre .1 in let v = p .1 .0 in
-    let ready = step-ready _ _ (v .trie) _ _ _ _ _ _ _ _ (c .before .before .before .before .before .before .before .before .before .before .before .before .before .before .before .before .before .before .before .loop .inv .5 (v .trie) (v .holds) (v .counted) (v .marked)) (omega (arith, p .1 .1 .0, v .counted)) (c .before .before .before .before .before .before .before .before .before .before .before .before .before .before .before .before .before .before .loop-test .taken) (omega (arith, c .before .before .before .before .before .before .before .before .before .before .before .before .before .before .before .before .before .before .before .before .if1 .left)) _ (record { number = 0; below = p .0 .one; stands = refl }) _ _ _ _ (λ t′ h′ e′. rw (c .before .before .before .before .before .before .before .before .before .before .before .before .before .before .numbered .ensures) at (c .before .before .before .before .before .before .before .before .before .before .before .before .before .step .ensures t′ h′ e′)) _ _ (c .before .before .before .before .before .stepped .given .1) in
+    let ready = step-ready _ _ (v .trie) _ _ _ _ _ _ _ _ (c .before .before .before .before .before .before .before .before .before .before .before .before .before .before .before .before .before .before .before .loop .inv .5 (v .trie) (v .holds) (v .counted) (v .marked)) (omega (arith, p .1 .1 .0, v .counted)) (omega (arith, c .before .before .before .before .before .before .before .before .before .before .before .before .before .before .before .before .before .before .loop-test .taken)) (omega (arith, c .before .before .before .before .before .before .before .before .before .before .before .before .before .before .before .before .before .before .before .before .if1 .left)) _ (record { number = 0; below = p .0 .one; stands = refl }) _ _ _ _ (λ t′ h′ e′. rw (c .before .before .before .before .before .before .before .before .before .before .before .before .before .before .numbered .ensures) at (c .before .before .before .before .before .before .before .before .before .before .before .before .before .step .ensures t′ h′ e′)) _ _ (c .before .before .before .before .before .stepped .given .1) in
     (omega (arith, c .before .before .before .before .before .before .before .before .before .before .before .before .before .before .before .before .before .before .before .before .before .before .before .before .before .before .before .pre .0, c .before .before .before .before .before .before .before .before .before .before .before .before .before .before .before .before .before .before .before .before .if1 .left), (p .0, (ready .0, (ready .1, omega (arith, p .1 .1 .1), omega (arith, c .before .before .before .before .before .before .before .before .before .before .before .before .before .before .before .before .before .before .before .loop .inv .4, p .1 .1 .2, c .before .before .before .before .before .before .before .before .before .before .before .before .before .step .kept .0, c .before .before .before .before .before .before .before .before .before .before .before .before .before .before .before .before .before .before .before .loop .inv .1)))))
 
 grow-children-enum-known-grown : (t : ℕ) → grow-children-lts.Need-enum-known-grown (grow-children-claims t) (grow-children-at t) grow-children.Post grow-children-Inv-loop grow-children-μ-loop
@@ -238,7 +238,7 @@ grow-children-same-length-8 t c =
 
 grow-children-returns-3 : (t : ℕ) → grow-children-lts.Need-returns-3 (grow-children-claims t) (grow-children-at t) grow-children.Post grow-children-Inv-loop grow-children-μ-loop
 grow-children-returns-3 t c =
-    let p = c .before .before .before .before .before .before .before .before .before .before .before .before .before .before .before .before .before .before .before .before .before .before .before .before .before .before .before .before .before .before .before .before .before .before .before .before .before .before .pre .1 in λ x h e d backs. child-full _ _ x _ _ _ _ _ _ _ _ (c .before .before .before .before .before .before .before .before .before .before .before .before .before .before .before .before .before .before .before .before .before .before .before .before .before .before .before .before .before .before .loop .inv .5 x h e d) (omega (arith, p .1 .1 .0)) (c .before .before .before .before .before .before .before .before .before .before .before .before .before .before .before .before .before .before .before .before .before .before .before .before .before .before .before .before .before .loop-test .taken) (omega (arith, c .before .before .before .before .before .before .before .before .before .before .before .before .before .before .before .before .before .before .before .before .before .before .before .before .before .before .before .before .before .before .before .if1 .left)) _ (record { number = 0; below = p .0 .one; stands = refl }) _ _ _ _ (λ t′ h′ e′. rw (c .before .before .before .before .before .before .before .before .before .before .before .before .before .before .before .before .before .before .before .before .before .before .before .before .before .numbered .ensures) at (c .before .before .before .before .before .before .before .before .before .before .before .before .before .before .before .before .before .before .before .before .before .before .before .before .step .ensures t′ h′ e′)) _ _ (c .before .before .before .before .before .before .before .before .before .before .before .before .before .before .before .before .stepped .given .1) _ _ _ _ _ (c .before .before .before .before .before .before .before .before .before .before .grow .ensures) (c .enum-told2 .given .1)
+    let p = c .before .before .before .before .before .before .before .before .before .before .before .before .before .before .before .before .before .before .before .before .before .before .before .before .before .before .before .before .before .before .before .before .before .before .before .before .before .before .pre .1 in λ x h e d backs. child-full _ _ x _ _ _ _ _ _ _ _ (c .before .before .before .before .before .before .before .before .before .before .before .before .before .before .before .before .before .before .before .before .before .before .before .before .before .before .before .before .before .before .loop .inv .5 x h e d) (omega (arith, p .1 .1 .0)) (omega (arith, c .before .before .before .before .before .before .before .before .before .before .before .before .before .before .before .before .before .before .before .before .before .before .before .before .before .before .before .before .before .loop-test .taken)) (omega (arith, c .before .before .before .before .before .before .before .before .before .before .before .before .before .before .before .before .before .before .before .before .before .before .before .before .before .before .before .before .before .before .before .if1 .left)) _ (record { number = 0; below = p .0 .one; stands = refl }) _ _ _ _ (λ t′ h′ e′. rw (c .before .before .before .before .before .before .before .before .before .before .before .before .before .before .before .before .before .before .before .before .before .before .before .before .before .numbered .ensures) at (c .before .before .before .before .before .before .before .before .before .before .before .before .before .before .before .before .before .before .before .before .before .before .before .before .step .ensures t′ h′ e′)) _ _ (c .before .before .before .before .before .before .before .before .before .before .before .before .before .before .before .before .stepped .given .1) _ _ _ _ _ (c .before .before .before .before .before .before .before .before .before .before .grow .ensures) (c .enum-told2 .given .1)
 
 grow-children-add-a : (t : ℕ) → grow-children-lts.Need-add-a (grow-children-claims t) (grow-children-at t) grow-children.Post grow-children-Inv-loop grow-children-μ-loop
 grow-children-add-a t c = omega (arith, c .before .before .before .before .before .before .before .before .before .before .before .before .before .before .before .before .before .before .before .before .before .before .before .before .before .before .before .before .before .before .loop-test .taken, c .before .before .before .before .before .before .before .before .before .before .before .before .before .before .before .before .before .before .before .before .before .before .before .before .before .before .before .before .before .before .before .before .before .before .before .before .before .before .before .fits)
@@ -254,7 +254,7 @@ grow-children-loop-again t c =
       c .before .before .before .before .before .before .before .before .before .before .before .grow .kept .1 .1 .1 .1 .1 .0 ∙ c .before .before .before .before .before .before .before .before .before .before .before .before .before .before .before .before .before .before .before .before .before .before .before .before .before .step .kept .1 .0 ∙ c .before .before .before .before .before .before .before .before .before .before .before .before .before .before .before .before .before .before .before .before .before .before .before .before .before .before .before .before .before .before .before .loop .inv .2,
       c .before .before .before .before .before .before .before .before .before .before .before .grow .kept .1 .1 .1 .1 .1 .1 .0 ∙ c .before .before .before .before .before .before .before .before .before .before .before .before .before .before .before .before .before .before .before .before .before .before .before .before .before .step .kept .1 .1 .0 ∙ c .before .before .before .before .before .before .before .before .before .before .before .before .before .before .before .before .before .before .before .before .before .before .before .before .before .before .before .before .before .before .before .loop .inv .3,
       c .before .before .before .before .before .before .before .before .before .before .before .grow .kept .1 .1 .1 .1 .1 .1 .1 .0 ∙ c .before .before .before .before .before .before .before .before .before .before .before .before .before .before .before .before .before .before .before .before .before .before .before .before .before .before .before .before .before .before .before .loop .inv .4,
-      λ x h e d. child-next _ _ x _ _ _ _ _ _ _ _ (c .before .before .before .before .before .before .before .before .before .before .before .before .before .before .before .before .before .before .before .before .before .before .before .before .before .before .before .before .before .before .before .loop .inv .5 x h e d) (omega (arith, p .1 .1 .0)) (c .before .before .before .before .before .before .before .before .before .before .before .before .before .before .before .before .before .before .before .before .before .before .before .before .before .before .before .before .before .before .loop-test .taken) (omega (arith, c .before .before .before .before .before .before .before .before .before .before .before .before .before .before .before .before .before .before .before .before .before .before .before .before .before .before .before .before .before .before .before .before .if1 .left)) _ (record { number = 0; below = p .0 .one; stands = refl }) _ _ _ _ (λ t′ h′ e′. rw (c .before .before .before .before .before .before .before .before .before .before .before .before .before .before .before .before .before .before .before .before .before .before .before .before .before .before .numbered .ensures) at (c .before .before .before .before .before .before .before .before .before .before .before .before .before .before .before .before .before .before .before .before .before .before .before .before .before .step .ensures t′ h′ e′)) _ _ (c .before .before .before .before .before .before .before .before .before .before .before .before .before .before .before .before .before .stepped .given .1) _ _ _ _ _ (c .before .before .before .before .before .before .before .before .before .before .before .grow .ensures) _ (c .before .grown .given .1),
+      λ x h e d. child-next _ _ x _ _ _ _ _ _ _ _ (c .before .before .before .before .before .before .before .before .before .before .before .before .before .before .before .before .before .before .before .before .before .before .before .before .before .before .before .before .before .before .before .loop .inv .5 x h e d) (omega (arith, p .1 .1 .0)) (omega (arith, c .before .before .before .before .before .before .before .before .before .before .before .before .before .before .before .before .before .before .before .before .before .before .before .before .before .before .before .before .before .before .loop-test .taken)) (omega (arith, c .before .before .before .before .before .before .before .before .before .before .before .before .before .before .before .before .before .before .before .before .before .before .before .before .before .before .before .before .before .before .before .before .if1 .left)) _ (record { number = 0; below = p .0 .one; stands = refl }) _ _ _ _ (λ t′ h′ e′. rw (c .before .before .before .before .before .before .before .before .before .before .before .before .before .before .before .before .before .before .before .before .before .before .before .before .before .before .numbered .ensures) at (c .before .before .before .before .before .before .before .before .before .before .before .before .before .before .before .before .before .before .before .before .before .before .before .before .before .step .ensures t′ h′ e′)) _ _ (c .before .before .before .before .before .before .before .before .before .before .before .before .before .before .before .before .before .stepped .given .1) _ _ _ _ _ (c .before .before .before .before .before .before .before .before .before .before .before .grow .ensures) _ (c .before .grown .given .1),
     )
 
 grow-children-same-length-9 : (t : ℕ) → grow-children-lts.Need-same-length-9 (grow-children-claims t) (grow-children-at t) grow-children.Post grow-children-Inv-loop grow-children-μ-loop
@@ -275,7 +275,7 @@ grow-children-same-length-12 t c =
 
 grow-children-returns-4 : (t : ℕ) → grow-children-lts.Need-returns-4 (grow-children-claims t) (grow-children-at t) grow-children.Post grow-children-Inv-loop grow-children-μ-loop
 grow-children-returns-4 t c =
-    let p = c .before .before .before .before .before .before .before .before .before .pre .1 in λ x h e d backs. turning-end _ _ x _ _ _ _ _ _ _ _ (c .before .loop .inv .5 x h e d) (omega (arith, p .1 .1 .0)) (c .loop-test .left) backs
+    let p = c .before .before .before .before .before .before .before .before .before .pre .1 in λ x h e d backs. turning-end _ _ x _ _ _ _ _ _ _ _ (c .before .loop .inv .5 x h e d) (omega (arith, p .1 .1 .0)) (omega (arith, c .loop-test .left)) backs
 
 pub +grow+grow-children-spec : {M : Type 1} → statement M
 +grow+grow-children-spec = close μ-grow μ-grow-children (λ t. grow-lts.spec (
