@@ -1,8 +1,7 @@
 -- Laws of what 1 to 10 leave to build.
-use Prim.Native.Nat.{ℕ, suc, _<_}
+use Prim.Native.Nat.{ℕ, _<_}
 use mathlib.Core.Path.{_≡_, sym, ap, _∙_}
-use mathlib.Core.Logic.{inl, inr}
-use mathlib.Core.List.{List, [], _∷_, List·Memᴰ·cases-cons, List·Memᴰ·not-nil}
+use mathlib.Core.List.{List}
 use lib.ListN.{length, getD, take}
 use lib.Seq.{take-append-seam}
 use Rattle.rules.specs.declared.Refusal.{Refusal}
@@ -10,7 +9,7 @@ use Rattle.rules.specs.declared.Built.the-variants.{Refused}
 use Rattle.rules.specs.Files.{DossierData, frontBytes, wordsBytes, dossierBytes}
 use Rattle.rules.specs.Operations.{fine, readDossier, build}
 use Rattle.rules.specs.Promises.{BuildPromise}
-use Rattle.theory.specs.Sized.{Bytes}
+use Rattle.theory.specs.Sized.{Bytes, bytes-of}
 use Rattle.theory.specs.Files.{dossier-whole}
 use Rattle.theory.specs.Sound.{sound-fine}
 use Rattle.reader.specs.declared.DossierShape.{DossierShape}
@@ -22,11 +21,6 @@ use Rattle.soundness.specs.Lent.{soundDossier}
 use Rattle.soundness.proofs.Behind.{left-dossier, left-refused}
 use Rattle.builder_copyist.specs.Ready.{Buildable}
 use Rattle.builder_copyist.proofs.Promised.{refused}
-
--- numbers that are bytes one by one are bytes
-bytes-of : (s : List ℕ) → ((i : ℕ) → getD s i 0 < 256) → Bytes s
-bytes-of [] each b m = absurd (List·Memᴰ·not-nil m)
-bytes-of (a ∷ s) each b m = elim (List·Memᴰ·cases-cons m) [ inl e ↦ rw e (each 0) | inr n ↦ bytes-of s (λ i. each (suc i)) b n ]
 
 -- a dossier begins with its sections before the tests
 front-first : (s : List ℕ) (d : DossierData) → Bytes s → readDossier s ≡ fine d → take (length (frontBytes d)) s ≡ frontBytes d

@@ -1,4 +1,3 @@
-pub mod Order
 pub mod Leading
 pub mod Searching
 pub mod Telling

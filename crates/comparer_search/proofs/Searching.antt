@@ -11,13 +11,12 @@ use lib.Seq.{getD-set-same}
 use Rattle.rules.specs.Sizes.{mostInputs}
 use Rattle.rules.specs.Words.{Word}
 use Rattle.rules.specs.Machines.{Machine}
-use Rattle.theory.specs.Orders.{ByLength}
 use Rattle.comparer_pairs.specs.Pairs.{pairs, goldenSays, unitSays, nextPair}
 use Rattle.comparer_pairs.specs.Marks.{unmarked, met, withMark}
 use Rattle.comparer_pairs.specs.Queue.{stepOf, entryOf, pairAt, parentAt, inputAt, wordTo}
 use Rattle.comparer_search.specs.Search.{Followed, Searchable, Searched, PutOf}
 use Rattle.comparer_pairs.proofs.Marking.{table-start, none-met, table-kept, met-other, unmet-all, unmet-less}
-use Rattle.comparer_search.proofs.Order.{before-append, before-input, before-longer}
+use Rattle.theory.specs.Orders.{ByLength, before-append, before-input, before-longer}
 use Rattle.comparer_pairs.proofs.Spelled.{step-is, input-small, word-start, word-next, new-pair, new-step, old-pair, old-step, old-word, falls-more, new-word}
 use Rattle.comparer_search.proofs.Leading.{next-pair-small, leads-more}
 

@@ -13,8 +13,8 @@ use Rattle.theory.specs.Machines.{alike-rest}
 use Rattle.theory.specs.Compare.{Equal}
 use Rattle.comparer_pairs.specs.Pairs.{pairs, goldenOf, unitOf, goldenSays, unitSays}
 use Rattle.comparer_pairs.specs.Queue.{stepOf, pairAt, wordTo}
-use Rattle.comparer_search.specs.Search.{AtMost, Followed, Searchable, Searched, Tells}
-use Rattle.comparer_search.proofs.Order.{at-most-append, at-most-longer, at-most-transitive, at-most-not-after}
+use Rattle.comparer_search.specs.Search.{Followed, Searchable, Searched, Tells}
+use Rattle.theory.specs.Orders.{AtMost, at-most-append, at-most-longer, at-most-transitive, at-most-not-after}
 use Rattle.comparer_pairs.proofs.Spelled.{word-start, falls-less}
 use Rattle.comparer_search.proofs.Leading.{next-golden, next-unit}
 use Rattle.comparer_search.proofs.Searching.{steps-rise}

@@ -7,9 +7,8 @@ use mathlib.Core.Bool.{Bool, true, false}
 use lib.ListN.{length, set}
 use Rattle.rules.specs.declared.Input.{Input}
 use Rattle.rules.specs.Sizes.{mostInputs}
-use Rattle.rules.specs.Machines.{Machine, Complete}
-use Rattle.reader.specs.Places.{machineAt, TableAt}
-use Rattle.walker.proofs.Tables.{entry-inside, next-at}
+use Rattle.rules.specs.Machines.{Machine}
+use Rattle.walker.proofs.Tables.{machine-complete}
 use Rattle.theory.specs.Compare.{Equal}
 use Rattle.comparer_pairs.specs.declared.Sides.{Sides}
 use Rattle.comparer_pairs.specs.declared.Seen.{Seen}
@@ -24,13 +23,6 @@ use Rattle.comparer_pairs.proofs.Looks.{seen-apart, seen-next}
 use Rattle.comparer_search.proofs.Leading.{leads-small, next-pair-small}
 use Rattle.comparer_search.proofs.Searching.{put-room, searched-put, searched-entry}
 use Rattle.comparer_search.proofs.Telling.{searched-equal, searched-tells}
-
-machine-complete : (s : List ℕ) (p k n : ℕ) → TableAt s p k n → Complete k (machineAt s p k n)
-machine-complete s p k n at =
-    record {
-      start = at .start;
-      closed = λ q i hq hi. rw (next-at s p k n q i hq hi) (at .closed _ (entry-inside n k q i hq hi));
-    }
 
 module _ (marks queue : List ℕ) (tail p step : ℕ) (b : Bool) (asked : b ≡ met marks p) where
   pub put-met : b ≡ true → PutOf (met marks p) marks queue tail p step marks queue tail

@@ -2,14 +2,13 @@
 -- inputs, so the first step that shows different outputs spells the first telling word.
 use Prim.Native.Nat.{ℕ, _+_, _≤_, _<_}
 use mathlib.Core.Path.{_≡_}
-use mathlib.Core.Logic.{_⊎_}
 use mathlib.Core.List.{List, [], _∷_, _++_}
 use mathlib.Core.Bool.{Bool, true, false}
 use lib.ListN.{length, set}
 use Rattle.rules.specs.Sizes.{mostInputs, mostStates}
 use Rattle.rules.specs.Words.{Word, Valid}
 use Rattle.rules.specs.Machines.{Machine, Complete, after, answer}
-use Rattle.theory.specs.Orders.{ByLength}
+use Rattle.theory.specs.Orders.{AtMost, ByLength}
 use Rattle.theory.specs.Compare.{Equal, FirstTelling}
 use Rattle.comparer_search.specs.declared.Progress.{Progress}
 use Rattle.comparer_search.specs.declared.Progress.the-variants.{Told, Upto}
@@ -18,10 +17,6 @@ use Rattle.comparer_search.specs.declared.Found.the-variants.{Nowhere, A
 use Rattle.comparer_pairs.specs.Pairs.{pairs, goldenOf, unitOf, goldenSays, unitSays, nextPair}
 use Rattle.comparer_pairs.specs.Marks.{MarkTable, met, withMark, unmet}
 use Rattle.comparer_pairs.specs.Queue.{stepOf, entryOf, pairAt, stepAt, wordTo, Falls}
-
--- v is w or comes before it
-abbrev pub AtMost : Word → Word → Type 0
-AtMost v w = (v ≡ w) ⊎ ByLength v w
 
 -- a word leads to a pair, and golden and unit answer it alike
 pub record Leads (k : ℕ) (G U : Machine) (w : Word) (p : ℕ) : Type 0 where

@@ -17,7 +17,8 @@ pub fn bound_of(states: u8, byte: u8) -> u8
     if byte == 0 { states } else { byte }
 }
 
-fn bound_in_range(states: u8, byte: u8) -> bool
+// Whether a byte can be the one for m (document 01, refusal 3).
+pub fn bound_in_range(states: u8, byte: u8) -> bool
     ensures { λ r. ⌜ r ≡ boundGood states byte ⌝ }
 {
     let bound = bound_of(states, byte);

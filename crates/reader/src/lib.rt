@@ -9,6 +9,7 @@ mod dossier;
 mod sheet;
 mod unit;
 
+pub use bound::bound_in_range;
 pub use bound::bound_of;
 pub use dossier::read_dossier;
 pub use sheet::read_sheet;

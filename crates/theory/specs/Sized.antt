@@ -1,8 +1,9 @@
 -- Document 01, "Sizes" and "The three files": when the lists of a file are within the sizes, stated on the lists alone.
-use Prim.Native.Nat.{ℕ, _+_, _*_, _≤_, _<_}
+use Prim.Native.Nat.{ℕ, suc, _+_, _*_, _≤_, _<_}
 use mathlib.Core.Path.{_≡_}
-use mathlib.Core.List.{List}
-use lib.ListN.{length}
+use mathlib.Core.Logic.{inl, inr}
+use mathlib.Core.List.{List, [], _∷_, List·Memᴰ·cases-cons, List·Memᴰ·not-nil}
+use lib.ListN.{length, getD}
 use Rattle.rules.specs.Lists.{_∈_}
 use Rattle.rules.specs.Sizes.{mostInputs, mostStates, mostAddedStates, mostSetWord, mostTestWord, mostDossierBytes, mostUnitBytes, mostSheetBytes}
 use Rattle.rules.specs.Words.{Word, Valid}
@@ -12,6 +13,11 @@ use Rattle.rules.specs.Files.{DossierData, UnitData, SheetRecord, bound, dossie
 -- every number of the list is a byte
 abbrev pub Bytes : List ℕ → Type 0
 Bytes l = (b : ℕ) → b ∈ l → b < 256
+
+-- numbers that are bytes one by one are bytes
+pub bytes-of : (s : List ℕ) → ((i : ℕ) → getD s i 0 < 256) → Bytes s
+bytes-of [] each b m = absurd (List·Memᴰ·not-nil m)
+bytes-of (a ∷ s) each b m = elim (List·Memᴰ·cases-cons m) [ inl e ↦ rw e (each 0) | inr n ↦ bytes-of s (λ i. each (suc i)) b n ]
 
 -- every word has at most `most` inputs, all below k
 abbrev pub SizedWords : ℕ → ℕ → List Word → Type 0

@@ -5,6 +5,7 @@ use mathlib.Core.List.{List}
 use native.Mathlib.Nat.{mul-le-mul, le-refl, suc-mul, add-zero}
 use native.Mathlib.Omega.{arith}
 use lib.ListN.{length, getD}
+use Rattle.rules.specs.Machines.{Complete}
 use Rattle.reader.specs.Places.{outputWidth, entryWidth, outputAt, outputsAt, entriesAt, machineAt, wordAt, TableAt}
 
 pub entry-inside : (n k q i : ℕ) → q < n → i < k → q * k + i < n * k
@@ -52,3 +53,11 @@ outputs-get s p (suc c) (suc j) h =
 
 pub recorded-long : (s : List ℕ) (p q n : ℕ) → n ≡ getD s p 0 → n ≡ length (wordAt s p) → length (outputsAt s q (getD s p 0)) ≡ length (wordAt s p)
 recorded-long s p q n byte long = outputs-length s q (getD s p 0) ∙ sym byte ∙ long
+
+-- The machine that stands in a table is complete.
+pub machine-complete : (s : List ℕ) (p k n : ℕ) → TableAt s p k n → Complete k (machineAt s p k n)
+machine-complete s p k n at =
+    record {
+      start = at .start;
+      closed = λ q i hq hi. rw (next-at s p k n q i hq hi) (at .closed _ (entry-inside n k q i hq hi));
+    }
