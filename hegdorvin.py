@@ -36,11 +36,15 @@ STATUS = {
     "EQUAL": GOOD,
     "AGREES": GOOD,
     "COST": GOOD,
+    "FOUND": GOOD,
     "FAILS": BAD,
     "DIFFERS": BAD,
     "DEVIATES": BAD,
     "REFUSED": REFUSED,
 }
+
+# The answers with which an output is written.
+WRITTEN = ("BUILT", "FOUND")
 
 # The sorts of file by their letter in a line: a name, and the most bytes one may have.
 SORTS = {"D": ("dossier", 65535), "U": ("unit", 65535), "S": ("sheet", 131070)}
@@ -63,6 +67,7 @@ REFUSALS = {
     15: "OTHER INPUTS",
     16: "TOO MANY STATES",
     17: "NO ROOM",
+    18: "NOT REDUCED",
 }
 
 
@@ -327,8 +332,8 @@ def show_progress(output):
     return last
 
 
-def ask(operation, given, has_output=False):
-    """The line of an operation on files, and the bytes of its output, if it is to have one."""
+def ask(operation, given, bound=None, has_output=False):
+    """The line of an operation on files, with a bound if it takes one, and the bytes of its output, if it is to have one."""
     kit = bureau()
     with tempfile.TemporaryDirectory(prefix="hegdorvin-") as folder:
         names = []
@@ -336,6 +341,8 @@ def ask(operation, given, has_output=False):
             name = os.path.join(folder, file.sort)
             Path(name).write_bytes(file.data)
             names.append(name)
+        if bound is not None:
+            names.append(str(bound))
         if has_output:
             names.append(os.path.join(folder, "output"))
         asked = [ROOT / "tests" / "native", "run", PROGRAM, operation, *names]
@@ -345,7 +352,7 @@ def ask(operation, given, has_output=False):
         words = line.split()
         if ran.returncode != 0 or not words or words[0] not in STATUS or not line.endswith("\n"):
             raise Trouble(no_answer(ran.returncode))
-        written = Path(names[-1]).read_bytes() if words[0] == "BUILT" else b""
+        written = Path(names[-1]).read_bytes() if words[0] in WRITTEN else b""
         return words, written
 
 
@@ -421,8 +428,8 @@ class Machine:
         at = 2 * (state * self.inputs + number)
         return self.entries[at], self.entries[at + 1]
 
-    def answer(self, word):
-        state, outputs = 0, []
+    def answer(self, word, state=0):
+        outputs = []
         for number in word:
             state, output = self.step(state, number)
             outputs.append(output)
@@ -547,15 +554,38 @@ def explain_unpaired(number, place, dossier, sheet):
     return [f"Record {place} has the word {word_text(word)}, which record {earlier} has already."]
 
 
+def explain_bound(unit):
+    most = min(64, unit.states + 4)
+    return [f"The bound has to be 0, or from {unit.states} to {most}, as the unit has {counted(unit.states, 'state')}."]
+
+
+def explain_unfit(number, values):
+    """8 and 18 of find: what keeps the unit from being a golden."""
+    if number == 8:
+        return [
+            f"No word leads to state {values[0]} of the unit. Without the states that no word leads to",
+            "the unit answers every word as it does now.",
+        ]
+    first, second = values
+    return [
+        f"States {first} and {second} of the unit answer every word alike. What leads to state {second} can lead",
+        f"to state {first}, and state {second} be dropped: the unit answers every word as it does now.",
+    ]
+
+
 def explain_refusal(words, given):
     number, values = int(words[1]), words[2:]
     lines = [f"{REFUSALS[number]}: nothing is decided."]
+    if values[:1] == ["N"]:
+        return lines + explain_bound(read_unit(given[0].data))
     if number <= 6:
         return lines + explain_malformed(number, values[0], int(values[1]), given)
     if number == 17:
         if values[0] == "65536":
             return lines + ["The built dossier would have more than 65,535 bytes."]
         return lines + [f"The output has to have {values[0]} bytes."]
+    if given[0].letter == "U":
+        return lines + explain_unfit(number, values)
     dossier = read_dossier(given[0].data)
     if number <= 11:
         return lines + explain_unsound(number, values, dossier)
@@ -597,10 +627,44 @@ def explain_telling(words, given):
     return lines + answers_beside(word, rows, len(word) - 1)
 
 
-def explain(words, given):
+def telling_words(dossier):
+    """For each separating word of a found dossier the states that it was found for: of all words that tell the two apart it is
+    the shortest, and the first by inputs among equals."""
+    golden = dossier.golden
+    words = sorted(dossier.separating, key=lambda word: (len(word), word))
+    answers = [[golden.answer(word, state) for word in words] for state in range(golden.states)]
+    found_for = {word: [] for word in dossier.separating}
+    for first in range(golden.states):
+        for second in range(first + 1, golden.states):
+            told = next(word for word, one, other in zip(words, answers[first], answers[second]) if one != other)
+            found_for[told].append((first, second))
+    return found_for
+
+
+def pairs_text(pairs):
+    """The pairs by their first state, as `state 0 from 1, 2; state 1 from 2`."""
+    others = {}
+    for first, second in pairs:
+        others.setdefault(first, []).append(str(second))
+    return "; ".join(f"state {first} from {', '.join(seconds)}" for first, seconds in others.items())
+
+
+def explain_found(words, dossier):
+    lines = [f"The dossier has {words[1]} bytes: the unit's table, {bound_text(dossier)}, and no tests yet."]
+    lines.append("The shortest word that leads to each state:")
+    lines += [f"  state {state}: {word_text(word)}" for state, word in enumerate(dossier.cover)]
+    if dossier.golden.states == 1:
+        return lines + ["No two states are there to be told apart: the empty word, -, stands for all."]
+    lines.append("The shortest words that tell states apart:")
+    return lines + [f"  {word_text(word)}: {pairs_text(pairs)}" for word, pairs in telling_words(dossier).items()]
+
+
+def explain(words, given, written=b""):
     said = words[0]
     if said == "REFUSED":
         return explain_refusal(words, given)
+    if said == "FOUND":
+        return explain_found(words, read_dossier(written))
     if said in ("FAILS", "DEVIATES"):
         return explain_failing(words, given)
     if said == "DIFFERS":
@@ -635,10 +699,13 @@ def word_lines(name, words):
     return lines + [f"  {place}: {word_text(word)}" for place, word in enumerate(words)]
 
 
+def bound_text(dossier):
+    return f"m = {dossier.bound}" + ("" if dossier.bound_byte else " (by default)")
+
+
 def show_dossier(data, dossier):
     golden = dossier.golden
-    bound = f"m = {dossier.bound}" + ("" if dossier.bound_byte else " (by default)")
-    lines = [f"dossier, {counted(len(data), 'byte')}: k = {golden.inputs}, n = {golden.states}, {bound}"]
+    lines = [f"dossier, {counted(len(data), 'byte')}: k = {golden.inputs}, n = {golden.states}, {bound_text(dossier)}"]
     lines += table_lines(golden)
     for name in ("cover", "separating", "tests"):
         lines += word_lines(name, getattr(dossier, name))
@@ -856,13 +923,13 @@ def operate(options):
     given = read_all(options.letters, names)
     if output is not None:
         not_an_input(output, names)
-    words, written = ask(options.operation, given, output is not None)
-    lines = [" ".join(words)] + (explain(words, given) if options.explain else [])
+    words, written = ask(options.operation, given, getattr(options, "bound", None), output is not None)
+    lines = [" ".join(words)] + (explain(words, given, written) if options.explain else [])
     if output is not None and is_standard_output(output):
         put(written, sys.stdout)
         say(lines, sys.stderr)
         return STATUS[words[0]]
-    if words[0] == "BUILT":
+    if words[0] in WRITTEN:
         write_output(output, written)
     say(lines)
     return STATUS[words[0]]
@@ -897,11 +964,12 @@ OPERATIONS = {
     "compare": ("DU", "compares golden and unit on every word"),
     "judge": ("DS", "judges the recorded answers of a sheet, paired with the tests by their words"),
     "cost": ("D", "counts the tests and their inputs"),
+    "find": ("U", "writes the dossier of a unit that is taken as golden, with cover and separating words and no tests yet"),
 }
 
-EXITS = """exit status: 0 ACCEPTED, BUILT, PASSES, EQUAL, AGREES or a cost; 1 FAILS, DIFFERS or DEVIATES; 2 a refusal; 3 bad
-usage, a file that cannot be read or written, or any other trouble, said in one line. A file `-` is standard input; an output
-`-` is standard output, and the line then goes to standard error."""
+EXITS = """exit status: 0 ACCEPTED, BUILT, PASSES, EQUAL, AGREES, FOUND or a cost; 1 FAILS, DIFFERS or DEVIATES; 2 a refusal;
+3 bad usage, a file that cannot be read or written, or any other trouble, said in one line. A file `-` is standard input; an
+output `-` is standard output, and the line then goes to standard error."""
 
 
 class Parser(argparse.ArgumentParser):
@@ -909,6 +977,13 @@ class Parser(argparse.ArgumentParser):
 
     def error(self, message):
         raise Trouble(f"{message} (see {self.prog} --help)")
+
+
+def bound_number(text):
+    """A number that can be passed as a bound. Whether it is one the table decides."""
+    if not re.fullmatch("[0-9]+", text) or int(text) > 255:
+        raise argparse.ArgumentTypeError(f"{text} is no number from 0 to 255")
+    return int(text)
 
 
 def add_command(commands, name, says, action):
@@ -927,7 +1002,9 @@ def parser():
         command.set_defaults(letters=letters)
         for letter in letters:
             command.add_argument(SORTS[letter][0])
-        if name == "build":
+        if name == "find":
+            command.add_argument("--bound", type=bound_number, default=0, metavar="M", help="the m to write; without it 0")
+        if name in ("build", "find"):
             command.add_argument("output")
         command.add_argument("--explain", action="store_true", help="say in words what the answer means")
     command = add_command(commands, "show", "shows a dossier, a unit or a sheet as text", show)

@@ -1,9 +1,9 @@
-// Times the library against the C that was written by hand, on the dossiers that are named, their units and their sheets. Both
-// must answer alike and leave the same output.
+// Times the library against the C that was written by hand, on the dossiers that are named, their units, their sheets and their
+// goldens' bare tables. Both must answer alike and leave the same output.
 //
-//   bench [NAME DOSSIER UNIT SHEET]...   a table: the operation, the name, the bytes of the dossier, the code of the answer,
-//                                        the best time of each, the library's over C's; and one of the stack that the
-//                                        library takes
+//   bench [NAME DOSSIER UNIT SHEET TABLE]...   a table: the operation, the name, the bytes of the dossier (for find, of the
+//                                              bare table), the code of the answer, the best time of each, the library's
+//                                              over C's; and one of the stack that the library takes
 #include "baseline.h"
 #include "stack.h"
 
@@ -16,12 +16,12 @@ int open(const char *path, int flags, ...);
 int close(int file);
 int printf(const char *format, ...);
 int strncmp(const char *one, const char *other, size length);
+size strlen(const char *text);
 
 enum {
     MONOTONIC = 1,
     ROUNDS = 40,
     ROUND_NS = 2000000, // how long a round of calls of one program takes at least
-    MOST_MS = 1000,     // for any dossier
 };
 
 struct file {
@@ -29,7 +29,7 @@ struct file {
     size length;
 };
 
-static struct file dossier, unit, sheet;
+static struct file dossier, unit, sheet, table;
 static byte output[1 << 16], library_output[1 << 16];
 
 static u64 library_check(void) { return hegdorvin_check(dossier.bytes, dossier.length); }
@@ -53,19 +53,28 @@ static u64 c_compare(void)
 static u64 library_judge(void) { return hegdorvin_judge(dossier.bytes, dossier.length, sheet.bytes, sheet.length); }
 static u64 c_judge(void) { return baseline_judge(dossier.bytes, dossier.length, sheet.bytes, sheet.length); }
 
-// An operation of the library, the same by hand, how many times as long the library may take for a built dossier of 60 KB, and the
-// most bytes of stack that it took.
+static u64 library_find(void) { return hegdorvin_find(table.bytes, table.length, 0, output, sizeof output); }
+static u64 c_find(void) { return baseline_find(table.bytes, table.length, 0, output, sizeof output); }
+
+static const char large[] = "built, 60 KB", hard[] = "hard table";
+
+// An operation of the library, the same by hand, and the file that they are lent first; how the names begin of the dossiers for
+// which the library's time is limited as a multiple of C's; the most milliseconds for any; and the most bytes of stack that the
+// library took.
 static struct timed {
     const char *name;
     operation *both[2];
-    int most_ratio;
+    const struct file *lent;
+    const char *limited;
+    int most_ratio, most_ms;
     size stack;
 } operations[] = {
-    {"check", {library_check, c_check}, 3, 0},
-    {"build", {library_build, c_build}, 3, 0},
-    {"run", {library_run, c_run}, 3, 0},
-    {"compare", {library_compare, c_compare}, 5, 0},
-    {"judge", {library_judge, c_judge}, 3, 0},
+    {"check", {library_check, c_check}, &dossier, large, 3, 1000, 0},
+    {"build", {library_build, c_build}, &dossier, large, 3, 1000, 0},
+    {"run", {library_run, c_run}, &dossier, large, 3, 1000, 0},
+    {"compare", {library_compare, c_compare}, &dossier, large, 5, 1000, 0},
+    {"judge", {library_judge, c_judge}, &dossier, large, 3, 1000, 0},
+    {"find", {library_find, c_find}, &table, hard, 2, 20, 0},
 };
 
 enum { OPERATIONS = sizeof operations / sizeof *operations };
@@ -115,9 +124,9 @@ static void best_times(operation *const both[2], double best[2])
 
 static int within_limits(const struct timed *timed, const char *name, const double best[2])
 {
-    static const char limited[] = "built, 60 KB";
-    if (strncmp(name, limited, sizeof limited - 1) == 0 && best[0] > timed->most_ratio * best[1]) return 0;
-    return best[0] <= MOST_MS;
+    int is_limited = strncmp(name, timed->limited, strlen(timed->limited)) == 0;
+    if (is_limited && best[0] > timed->most_ratio * best[1]) return 0;
+    return best[0] <= timed->most_ms;
 }
 
 // Whether both answer alike and leave the same output.
@@ -140,7 +149,7 @@ static int time_operation(const struct timed *timed, const char *name)
     if (!alike(timed, name)) return 0;
     best_times(timed->both, best);
     int within = within_limits(timed, name, best);
-    printf("| %s | %s | %lu | %lu | %.3f | %.3f | %.2f%s |\n", timed->name, name, dossier.length, answer & 31, best[0],
+    printf("| %s | %s | %lu | %lu | %.3f | %.3f | %.2f%s |\n", timed->name, name, timed->lent->length, answer & 31, best[0],
            best[1], best[0] / best[1], within ? "" : ", over the limit");
     return within;
 }
@@ -155,10 +164,11 @@ int main(int count, char **words)
 {
     int good = 1;
     printf("| operation | dossier | bytes | code | library, ms | C, ms | ratio |\n|---|---|---|---|---|---|---|\n");
-    for (int i = 1; i + 3 < count; i += 4) {
+    for (int i = 1; i + 4 < count; i += 5) {
         read_file(words[i + 1], &dossier);
         read_file(words[i + 2], &unit);
         read_file(words[i + 3], &sheet);
+        read_file(words[i + 4], &table);
         for (int j = 0; j < OPERATIONS; j++) {
             good &= time_operation(&operations[j], words[i]);
             measure_stack(&operations[j]);

@@ -32,10 +32,11 @@ enum {
     OTHER_INPUTS,
     TOO_MANY_STATES,
     NO_ROOM,
+    NOT_REDUCED,
 };
 
 // What a refusal can concern.
-enum { DOSSIER = 1, UNIT, SHEET, OUTPUT };
+enum { DOSSIER = 1, UNIT, SHEET, OUTPUT, NUMBER = 6 };
 
 // The place of the first word and how many there are.
 struct section {

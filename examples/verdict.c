@@ -1,19 +1,17 @@
-// From a golden to a verdict: builds the tests of document 01's golden G for m = 3, runs the unit V over them, looks for the
-// shortest word that tells the two apart, and judges what a bench recorded of G.
+// From a bare table to a verdict: finds the words of document 01's golden G for m = 3, builds its tests, runs the unit V over
+// them, looks for the shortest word that tells the two apart, and judges what a bench recorded of G.
 #include "hegdorvin.h"
 #include <stdio.h>
 
-// k, n, m; two entries (next state, output) for each state; the cover's words; the separating word; no tests yet.
-static const uint8_t golden[] = {3, 0, 2, 2, 3, 4, 0, 0, 0, 1, 0, 0, 1, 1, 0, 2, 0, 0, 1, 1, 1, 0, 1, 0, 0, 0};
-
-// k, u; two entries for each state.
+// k, n; two entries (next state, output) for each state. The unit's table is laid out likewise.
+static const uint8_t table[] = {2, 0, 2, 2, 4, 0, 0, 0, 1, 0, 0, 1, 1, 0};
 static const uint8_t unit[] = {2, 0, 2, 3, 6, 0, 2, 0, 1, 0, 0, 1, 1, 0, 2, 0, 2, 0};
 
 // Six records in an order of the bench's own: 1110 answered 0 0 0 1, 000 answered 0 0 0, ...
 static const uint8_t sheet[] = {6, 0, 4, 1, 1, 1, 0, 0, 0, 0, 1, 3, 0, 0, 0, 0, 0, 0, 4, 1, 0, 1, 0, 0, 1, 0, 1,
                                 4, 1, 1, 0, 0, 0, 0, 1, 0, 3, 0, 1, 0, 0, 0, 1, 4, 1, 0, 0, 0, 0, 1, 0, 0};
 
-// What went wrong, as document 01 numbers it.
+// What went wrong, as the documents number it.
 static int refused(hegdorvin_answer answer)
 {
     printf("REFUSED %u, file %u\n", hegdorvin_code_of(answer), hegdorvin_file_of(answer));
@@ -28,8 +26,12 @@ static void print_word(const uint8_t *word, unsigned length)
 
 int main(void)
 {
-    uint8_t dossier[65535], word[127];
-    hegdorvin_answer built = hegdorvin_build(golden, sizeof golden, dossier, sizeof dossier);
+    uint8_t golden[65535], dossier[65535], word[127];
+    hegdorvin_answer found = hegdorvin_find(table, sizeof table, 3, golden, sizeof golden);
+    if (hegdorvin_code_of(found) != HEGDORVIN_GOOD) return refused(found);
+    printf("FOUND %u\n", hegdorvin_first(found));
+
+    hegdorvin_answer built = hegdorvin_build(golden, hegdorvin_first(found), dossier, sizeof dossier);
     if (hegdorvin_code_of(built) != HEGDORVIN_GOOD) return refused(built);
     unsigned length = hegdorvin_first(built);
     printf("BUILT %u\n", length);

@@ -39,6 +39,11 @@ hegdorvin_answer hegdorvin_judge_word(const uint8_t *dossier, size_t dossier_len
 /* GOOD is a cost; first: the count of tests, second: the sum of their lengths. */
 hegdorvin_answer hegdorvin_cost(const uint8_t *dossier, size_t dossier_length);
 
+/* The unit is taken as golden, and the bound as the dossier's m; 0 is written as 0. GOOD is FOUND; first: the length of the
+ * dossier that was written, which has no tests yet. UNREACHED and NOT REDUCED concern the unit; first: the state, or the
+ * lower of the two; second: the other. NO ROOM; first: the length needed. */
+hegdorvin_answer hegdorvin_find(const uint8_t *unit, size_t unit_length, uint8_t bound, uint8_t *output, size_t output_length);
+
 /* The code of an answer: GOOD, BAD, or the number of a refusal. */
 enum hegdorvin_code {
     HEGDORVIN_GOOD = 0,
@@ -59,6 +64,7 @@ enum hegdorvin_code {
     HEGDORVIN_OTHER_INPUTS = 15,
     HEGDORVIN_TOO_MANY_STATES = 16,
     HEGDORVIN_NO_ROOM = 17,
+    HEGDORVIN_NOT_REDUCED = 18,
     HEGDORVIN_BAD = 31
 };
 
@@ -68,7 +74,8 @@ enum hegdorvin_file {
     HEGDORVIN_DOSSIER = 1,
     HEGDORVIN_UNIT = 2,
     HEGDORVIN_SHEET = 3,
-    HEGDORVIN_OUTPUT = 4
+    HEGDORVIN_OUTPUT = 4,
+    HEGDORVIN_NUMBER = 6 /* a number that was passed */
 };
 
 static inline unsigned hegdorvin_bits(hegdorvin_answer answer, unsigned from, unsigned count)

@@ -6,7 +6,7 @@ use crate::files::{
 };
 use crate::machine::Word;
 use crate::needed::go_through_needed;
-use crate::refusal::Refusal;
+use crate::refusal::{Refusal, OVER_ITS_SIZE};
 use crate::sizes::MOST_DOSSIER_BYTES;
 use std::collections::BTreeSet;
 use std::ops::ControlFlow;
@@ -16,11 +16,6 @@ use std::ops::ControlFlow;
 pub struct Built {
     pub length: usize,
 }
-
-/// What NO ROOM names for any dossier over its size, whatever room there is.
-const OVER_ITS_SIZE: Refusal = Refusal::NoRoom {
-    needed: MOST_DOSSIER_BYTES + 1,
-};
 
 /// Writes the dossier with new tests at the front of the output, or refuses by 1 to 10 or 17.
 pub fn build(dossier: &[u8], output: &mut [u8]) -> Result<Built, Refusal> {

@@ -3,7 +3,7 @@
 use crate::files::{read_dossier, Dossier};
 use crate::machine::{Answer, GoldenState, Input, Word};
 use crate::needed::go_through_needed;
-use crate::refusal::Refusal;
+use crate::refusal::{File, Refusal};
 use std::collections::{BTreeSet, HashSet};
 use std::ops::ControlFlow;
 
@@ -30,7 +30,10 @@ pub fn check_cover_and_separators(dossier: &Dossier) -> Result<(), Refusal> {
         return Err(Refusal::NoEmptyWord);
     }
     if let Some(state) = lowest_unreached(dossier) {
-        return Err(Refusal::Unreached { state });
+        return Err(Refusal::Unreached {
+            file: File::Dossier,
+            state,
+        });
     }
     if dossier.separating.is_empty() {
         return Err(Refusal::NoSeparator);

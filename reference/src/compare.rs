@@ -55,14 +55,14 @@ pub fn telling_word<S: State, T: State>(
         for input in one.all_inputs() {
             let one_step = one.step(one_state, input);
             let other_step = other.step(other_state, input);
-            let longer = [word.as_slice(), &[input]].concat();
+            let longer = || [word.as_slice(), &[input]].concat();
             if one_step.output != other_step.output {
-                return Some(longer);
+                return Some(longer());
             }
             let pair = place_of_pair(one_step.next, other_step.next);
             if !met[pair] {
                 met[pair] = true;
-                waiting.push_back((one_step.next, other_step.next, longer));
+                waiting.push_back((one_step.next, other_step.next, longer()));
             }
         }
     }

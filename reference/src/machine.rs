@@ -93,6 +93,18 @@ impl<S: State> Machine<S> {
         usize::from(state.number()) * usize::from(self.inputs) + usize::from(input.0)
     }
 
+    /// The same table over another sort of state: a unit taken as golden, or a golden as unit.
+    pub fn over_states<T: State>(&self) -> Machine<T> {
+        let steps = self.steps.iter().map(|step| Step {
+            next: T::numbered(step.next.number()),
+            output: step.output,
+        });
+        Machine {
+            inputs: self.inputs,
+            steps: steps.collect(),
+        }
+    }
+
     /// The answer to a word that starts in this state.
     pub fn answer_from(&self, start: S, word: &[Input]) -> Answer {
         let mut state = start;

@@ -1,4 +1,4 @@
-//! The second program for a clerk: each operation of document 01 over files, one line an answer.
+//! The second program for a clerk: each operation over files, one line an answer.
 //!
 //! The line of `run` is document 01's, to the byte. Those of the other commands are in README.md.
 
@@ -6,6 +6,7 @@ use reference::build::built_bytes;
 use reference::check::{check, Accepted};
 use reference::compare::compared;
 use reference::cost::{cost, Cost};
+use reference::find::found_bytes;
 use reference::judge::{judge, JudgeAnswer};
 use reference::line::run_line;
 use reference::machine::{digits, Input};
@@ -23,6 +24,7 @@ usage: reference run FOLDER             run FOLDER/unit over the tests of FOLDER
        reference compare DOSSIER UNIT   do golden and unit answer every word alike?
        reference judge DOSSIER SHEET    does the sheet hold the golden's answers?
        reference build DOSSIER OUT      write the dossier with new tests to the file OUT
+       reference find UNIT BOUND OUT    write a dossier of the unit taken as golden to the file OUT
 ";
 
 fn main() -> ExitCode {
@@ -43,7 +45,13 @@ fn main() -> ExitCode {
         (Some("judge"), [dossier, sheet]) => {
             say_answer(judge_line(&bytes_of(dossier), &bytes_of(sheet)))
         }
-        (Some("build"), [dossier, out]) => build_file(&bytes_of(dossier), out),
+        (Some("build"), [dossier, out]) => {
+            write_file("BUILT", built_bytes(&bytes_of(dossier)), out)
+        }
+        (Some("find"), [unit, bound, out]) => match decimal(bound) {
+            Some(bound) => write_file("FOUND", found_bytes(&bytes_of(unit), bound), out),
+            None => wrong_usage(),
+        },
         _ => wrong_usage(),
     }
 }
@@ -74,9 +82,9 @@ fn judge_line(dossier: &[u8], sheet: &[u8]) -> Result<String, Refusal> {
     })
 }
 
-/// Builds into a file, which has room for any dossier. A refusal leaves the file as it was.
-fn build_file(dossier: &[u8], out: &Path) -> ExitCode {
-    let bytes = match built_bytes(dossier) {
+/// Writes a dossier to a file, which has room for any. A refusal leaves the file as it was.
+fn write_file(said: &str, dossier: Result<Vec<u8>, Refusal>, out: &Path) -> ExitCode {
+    let bytes = match dossier {
         Ok(bytes) => bytes,
         Err(refusal) => return say_answer(Err(refusal)),
     };
@@ -84,7 +92,14 @@ fn build_file(dossier: &[u8], out: &Path) -> ExitCode {
         eprintln!("reference: cannot write {}: {fault}", out.display());
         return ExitCode::FAILURE;
     }
-    say_answer(Ok(format!("BUILT length {}", bytes.len())))
+    say_answer(Ok(format!("{said} length {}", bytes.len())))
+}
+
+/// A number of 0 to 255 in decimal digits.
+fn decimal(word: &Path) -> Option<u8> {
+    let digits = word.to_str()?;
+    let all_digits = digits.bytes().all(|byte| byte.is_ascii_digit());
+    all_digits.then(|| digits.parse().ok())?
 }
 
 /// A file's bytes. One that cannot be opened counts as empty, and one that cannot be read to its

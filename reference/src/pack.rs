@@ -7,12 +7,13 @@ use crate::build::{build as build_dossier, Built};
 use crate::check::{check as check_dossier, Accepted};
 use crate::compare::{compare as compare_unit, CompareAnswer};
 use crate::cost::{cost as cost_of, Cost};
+use crate::find::{find as find_words, Found};
 use crate::judge::{judge as judge_sheet, JudgeAnswer};
 use crate::machine::Input;
 use crate::refusal::{File, Refusal};
 use crate::run::{run as run_unit, RunAnswer};
 
-/// The code of ACCEPTED, BUILT, PASSES, EQUAL, AGREES, a cost and a part of the dossier.
+/// The code of ACCEPTED, BUILT, PASSES, EQUAL, AGREES, FOUND, a cost and a part of the dossier.
 const GOOD: u8 = 0;
 
 /// The code of FAILS, DIFFERS and DEVIATES.
@@ -78,6 +79,14 @@ pub fn cost(dossier: &[u8]) -> u64 {
     }
 }
 
+/// Find: the length.
+pub fn find(unit: &[u8], bound: u8, output: &mut [u8]) -> u64 {
+    match find_words(unit, bound, output) {
+        Ok(Found { length }) => values(GOOD, length, 0),
+        Err(refusal) => refused(&refusal),
+    }
+}
+
 /// An answer that is no refusal.
 fn values(code: u8, first: usize, second: usize) -> u64 {
     u64::from(code) | (first as u64) << 8 | (second as u64) << 32
@@ -106,14 +115,17 @@ fn file_code(file: File) -> u64 {
         File::Unit => 2,
         File::Sheet => 3,
         File::Output => 4,
+        File::Number => 6,
     }
 }
 
 /// The first and the second value of a refusal other than MISSING; 0 where there is none.
 fn two_values(refusal: &Refusal) -> (usize, usize) {
     match refusal {
-        Refusal::Unreached { state } => (usize::from(state.0), 0),
-        Refusal::NotSeparated { first, second } => (usize::from(first.0), usize::from(second.0)),
+        Refusal::Unreached { state, .. } => (usize::from(state.0), 0),
+        Refusal::NotSeparated { first, second } | Refusal::NotReduced { first, second } => {
+            (usize::from(first.0), usize::from(second.0))
+        }
         Refusal::Repeated { record } | Refusal::Foreign { record } => (*record, 0),
         Refusal::Absent { test } => (*test, 0),
         Refusal::NoRoom { needed } => (*needed, 0),

@@ -1,6 +1,7 @@
-//! The seventeen refusals (document 01, section "Operations and answers").
+//! The refusals (document 01, section "Operations and answers"; 18 is of document 02, L1).
 
 use crate::machine::{digits, GoldenState, Word};
+use crate::sizes::MOST_DOSSIER_BYTES;
 use std::fmt;
 
 /// What a refusal can concern.
@@ -10,6 +11,8 @@ pub enum File {
     Unit,
     Sheet,
     Output,
+    /// A number that was passed and stands in no file.
+    Number,
 }
 
 /// A byte of a file, placed from 0.
@@ -29,7 +32,10 @@ pub enum Refusal {
     BadWord(Place),
     Trailing(Place),
     NoEmptyWord,
+    /// Of the dossier where no cover word reaches the state, of a unit taken as golden where no
+    /// word does.
     Unreached {
+        file: File,
         state: GoldenState,
     },
     NoSeparator,
@@ -56,10 +62,19 @@ pub enum Refusal {
     NoRoom {
         needed: usize,
     },
+    NotReduced {
+        first: GoldenState,
+        second: GoldenState,
+    },
 }
 
+/// What NO ROOM names for any dossier over its size, whatever room there is.
+pub const OVER_ITS_SIZE: Refusal = Refusal::NoRoom {
+    needed: MOST_DOSSIER_BYTES + 1,
+};
+
 impl Refusal {
-    /// The number of the refusal, 1 to 17.
+    /// The number of the refusal, 1 to 18.
     pub fn number(&self) -> u8 {
         self.number_and_name().0
     }
@@ -88,6 +103,7 @@ impl Refusal {
             Refusal::OtherInputs => (15, "OTHER INPUTS"),
             Refusal::TooManyStates => (16, "TOO MANY STATES"),
             Refusal::NoRoom { .. } => (17, "NO ROOM"),
+            Refusal::NotReduced { .. } => (18, "NOT REDUCED"),
         }
     }
 
@@ -106,10 +122,13 @@ impl Refusal {
 
     /// The file that the refusal concerns.
     pub fn file(&self) -> File {
+        if let Refusal::Unreached { file, .. } = self {
+            return *file;
+        }
         match (self.place(), self.number()) {
             (Some(place), _) => place.file,
             (None, 12..=14) => File::Sheet,
-            (None, 15 | 16) => File::Unit,
+            (None, 15 | 16 | 18) => File::Unit,
             (None, 17) => File::Output,
             (None, _) => File::Dossier,
         }
@@ -123,6 +142,7 @@ impl fmt::Display for File {
             File::Unit => "unit",
             File::Sheet => "sheet",
             File::Output => "output",
+            File::Number => "number",
         })
     }
 }
@@ -134,8 +154,8 @@ impl fmt::Display for Refusal {
         write!(to, "REFUSED {number} {name}, {}", self.file())?;
         match self {
             Refusal::CutShort(place) => write!(to, ", length {}", place.byte),
-            Refusal::Unreached { state } => write!(to, ", state {}", state.0),
-            Refusal::NotSeparated { first, second } => {
+            Refusal::Unreached { state, .. } => write!(to, ", state {}", state.0),
+            Refusal::NotSeparated { first, second } | Refusal::NotReduced { first, second } => {
                 write!(to, ", states {} and {}", first.0, second.0)
             }
             Refusal::Missing {

@@ -20,3 +20,13 @@ pub const MOST_DOSSIER_BYTES: usize = 65_535;
 
 /// The most bytes of a sheet.
 pub const MOST_SHEET_BYTES: usize = 131_070;
+
+/// The highest bound for so many states.
+pub fn highest_bound(states: u8) -> u8 {
+    MOST_STATES.min(states + MOST_EXTRA_STATES)
+}
+
+/// Whether a byte says a bound for so many states: 0, or n <= m <= 64 and m - n <= 4.
+pub fn is_bound(byte: u8, states: u8) -> bool {
+    byte == 0 || (states..=highest_bound(states)).contains(&byte)
+}

@@ -36,6 +36,11 @@ pub fn unit_v() -> Unit {
     machine::<UnitState>(2, &[(2, 0), (1, 0), (0, 1), (1, 0), (2, 0), (2, 0)])
 }
 
+/// G as a bare table: a unit that is to be taken as golden.
+pub fn table_g() -> Unit {
+    golden_g().over_states()
+}
+
 /// A dossier of G with its cover and its separating word.
 pub fn dossier_g(bound_byte: u8, tests: &[&str]) -> Dossier {
     Dossier {
@@ -69,6 +74,31 @@ fn dossier_with(cover: &[&str], separating: &[&str]) -> Dossier {
         separating: words(separating),
         ..dossier_g(2, &TESTS_2)
     }
+}
+
+/// G and V, one state, two states that answer alike, a state that no word reaches, both at once, and
+/// as many states as the bounds at the edges of their range ask for.
+pub fn tables() -> Vec<Unit> {
+    vec![
+        table_g(),
+        unit_v(),
+        machine(1, &[(0, 0)]),
+        machine(1, &[(1, 0), (2, 1), (3, 1), (1, 1)]),
+        machine(1, &[(1, 0), (0, 0), (0, 1), (0, 2)]),
+        machine(1, &[(1, 0), (0, 0), (2, 1)]),
+        chain(60),
+        chain(61),
+        chain(64),
+    ]
+}
+
+/// States that follow each other, of which the last is told by its output.
+pub fn chain(states: u8) -> Unit {
+    let step = |state: u8| match state + 1 {
+        next if next < states => (next, 0),
+        _ => (state, 1),
+    };
+    machine(1, &(0..states).map(step).collect::<Vec<_>>())
 }
 
 /// Every dossier of which document 01 says what it needs, builds or is refused for.

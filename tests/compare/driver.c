@@ -1,8 +1,8 @@
 // Calls the library on files that come over the standard input, and writes its answers to the standard output.
 //
-// A request is four numbers of four bytes, low byte first (the operation, the lengths of two files, the length of the output),
-// then the bytes of the two files. An answer is the packed answer and what was harmed by the call (0 for nothing), eight bytes
-// each, then the bytes of the output.
+// A request is five numbers of four bytes, low byte first (the operation, a number that it is passed, the lengths of two files,
+// the length of the output), then the bytes of the two files. An answer is the packed answer and what was harmed by the call (0
+// for nothing), eight bytes each, then the bytes of the output.
 #include "native.h"
 
 enum {
@@ -106,53 +106,58 @@ static byte *place(struct lent *lent)
     return lent->length == 0 ? 0 : lent->bytes + GUARD;
 }
 
-static u64 call(u32 operation)
+enum { CHECK, BUILD, RUN, COST, COMPARE, JUDGE, JUDGE_WORD, FIND };
+
+static u64 call(u32 operation, byte number)
 {
     switch (operation) {
-    case 0: return hegdorvin_check(place(&first), first.length);
-    case 1: return hegdorvin_build(place(&first), first.length, place(&output), output.length);
-    case 2: return hegdorvin_run(place(&first), first.length, place(&second), second.length);
-    case 3: return hegdorvin_cost(place(&first), first.length);
-    case 4:
+    case CHECK: return hegdorvin_check(place(&first), first.length);
+    case BUILD: return hegdorvin_build(place(&first), first.length, place(&output), output.length);
+    case RUN: return hegdorvin_run(place(&first), first.length, place(&second), second.length);
+    case COST: return hegdorvin_cost(place(&first), first.length);
+    case COMPARE:
         return hegdorvin_compare(place(&first), first.length, place(&second), second.length, place(&output), output.length);
-    case 5: return hegdorvin_judge(place(&first), first.length, place(&second), second.length);
-    case 6: return hegdorvin_judge_word(place(&first), first.length, place(&second), second.length);
+    case JUDGE: return hegdorvin_judge(place(&first), first.length, place(&second), second.length);
+    case JUDGE_WORD: return hegdorvin_judge_word(place(&first), first.length, place(&second), second.length);
+    case FIND: return hegdorvin_find(place(&first), first.length, number, place(&output), output.length);
     default: exit(3);
     }
 }
 
 #ifdef WRONG
+enum { BOUND_PLACE = 4 };
+
 // The byte that a wrong library could change, or none where this call has no such byte.
-static byte *spoilt_byte(u64 answer)
+static byte *spoilt_byte(u32 operation, byte number, u64 answer)
 {
-    size built = (answer & 31) == 0 ? answer >> 8 & 0xFFFFFF : 0;
+    size written = (answer & 31) == 0 ? answer >> 8 & 0xFFFFFF : 0;
+    if (WRONG >= 7 && operation != (WRONG < 9 ? BUILD : FIND)) return 0;
     switch (WRONG) {
     case 2: return place(&first);
     case 3: return first.bytes + GUARD + first.length;
     case 4: return place(&second);
     case 5: return output.bytes + GUARD - 1;
     case 6: return output.bytes + GUARD + output.length;
-    case 7: return built == 0 ? place(&output) : 0;
-    case 8: return 0 < built && built < output.length ? output.bytes + GUARD + built : 0;
+    case 7:
+    case 9: return written == 0 ? place(&output) : 0;
+    case 8:
+    case 10: return 0 < written && written < output.length ? output.bytes + GUARD + written : 0;
+    case 11: return written != 0 && number == 0 ? output.bytes + GUARD + BOUND_PLACE : 0;
     default: return 0;
     }
 }
 
 // What a wrong library could do, now and then: 1 answers otherwise; 2 changes the first file, 3 the byte after it, 4 the
-// second file, 5 the byte before the output, 6 the byte after it, 7 the output of a refusal, 8 the byte after a built dossier.
-static u64 spoilt(u64 answer)
+// second file, 5 the byte before the output, 6 the byte after it, 7 the output of a refused build, 8 the byte after a built
+// dossier, 9 the output of a refused find, 10 the byte after a found dossier, 11 the default bound in a found dossier.
+static u64 spoilt(u32 operation, byte number, u64 answer)
 {
     static u32 calls;
-    byte *changed = spoilt_byte(answer);
+    byte *changed = spoilt_byte(operation, number, answer);
     if (WRONG != 1 && changed == 0) return answer;
     if (++calls % 101 != 0) return answer;
     if (WRONG == 1) return answer ^ 1ul << 8;
     *changed ^= 1;
-    return answer;
-}
-#else
-static u64 spoilt(u64 answer)
-{
     return answer;
 }
 #endif
@@ -189,13 +194,17 @@ int main(void)
     fill_unwritten();
     for (;;) {
         u32 operation = get_number();
+        byte number = (byte)get_number();
         set_length(&first);
         set_length(&second);
         set_length(&output);
         get_file(&first);
         get_file(&second);
         memcpy(output.bytes + GUARD, unwritten, output.length);
-        u64 answer = spoilt(call(operation));
+        u64 answer = call(operation, number);
+#ifdef WRONG
+        answer = spoilt(operation, number, answer);
+#endif
         put_number(answer);
         put_number(harmed());
         put(output.bytes + GUARD, output.length);

@@ -1,20 +1,30 @@
-// The bureau's program: `check D`, `build D OUT`, `run D U`, `compare D U`, `judge D S` and `cost D`, with the names of
-// files. It reads them, asks for the line of the operation, and prints it (docs/LINES.md).
+// The bureau's program: `check D`, `build D OUT`, `run D U`, `compare D U`, `judge D S`, `cost D` and `find U BOUND OUT`, with
+// the names of files and a number. It reads them, asks for the line of the operation, and prints it (docs/LINES.md).
+use bureau_lines::BuiltLine;
 use bureau_lines::build_line;
 use bureau_lines::check_line;
 use bureau_lines::compare_line;
 use bureau_lines::cost_line;
+use bureau_lines::find_line;
 use bureau_lines::trial_line;
 use bureau_sheets::judge_line;
 use libc::STDOUT_FILENO;
 use line::Line;
 use rules::MOST_DOSSIER_BYTES;
 ghost use mathlib.Core.Path.{_≡_};
+ghost use mathlib.Core.List.{[], _∷_};
 ghost use Prim.Native.Nat.{_≤_};
 ghost use lib.ListN.{length};
 ghost use Rattle.io.specs.Counts.{Counts};
 ghost use Rattle.rules.specs.Words.{same};
 ghost use Rattle.line.specs.Lines.{lineRoom};
+ghost use Rattle.bureau.specs.Bounds.{boundFrom, boundGiven};
+
+// A bound, as far as the digits that were given make one.
+enum Given {
+    Bound(u8),
+    NoBound,
+}
 
 // One byte more than a sheet may have.
 const SHEET_ROOM: usize = 131071;
@@ -25,7 +35,7 @@ fn sheet_buffer() -> [u8; SHEET_ROOM]
     [0; SHEET_ROOM]
 }
 
-// As long as a built dossier may be.
+// As long as a dossier may be.
 fn built_buffer() -> [u8; MOST_DOSSIER_BYTES]
     ensures { λ r. ⌜ 65535 ≡ length r ⌝ }
 {
@@ -105,21 +115,36 @@ fn print_judge() {
     print(judge_line(&dossier[..d], &sheet[..s]));
 }
 
-// A file is made only where there is a built dossier to put there, and the line is printed once the file has it.
+// A file is made only where there is a dossier to put there, and the line is printed once the file has it.
+fn print_written(written: BuiltLine, argument: usize, out: &[u8])
+    requires { ⌜ written .length ≤ length (now out) ⌝ }
+    requires { ⌜ (written .line .length ≤ lineRoom) × (length (written .line .bytes) ≡ lineRoom) ⌝ }
+{
+    let n = written.length;
+    if 0 < n {
+        if !save(argument, &out[..n]) {
+            io::write_all(STDOUT_FILENO, b"UNWRITTEN\n");
+            return;
+        }
+    }
+    let line = written.line;
+    print(line);
+}
+
 fn print_build() {
     let mut dossier = io::large_buffer();
     let mut out = built_buffer();
     let d = load(2, &mut dossier);
     let built = build_line(&dossier[..d], &mut out);
-    let n = built.length;
-    if 0 < n {
-        if !save(3, &out[..n]) {
-            io::write_all(STDOUT_FILENO, b"UNWRITTEN\n");
-            return;
-        }
-    }
-    let line = built.line;
-    print(line);
+    print_written(built, 3, &out);
+}
+
+fn print_find(bound: u8) {
+    let mut unit = io::large_buffer();
+    let mut out = built_buffer();
+    let u = load(2, &mut unit);
+    let found = find_line(&unit[..u], bound, &mut out);
+    print_written(found, 4, &out);
 }
 
 fn is_word(given: &[u8], name: &[u8]) -> bool
@@ -138,10 +163,50 @@ fn is_word(given: &[u8], name: &[u8]) -> bool
     true
 }
 
+// The bound that a number becomes with one more digit behind it.
+fn with_digit(number: u8, byte: u8) -> Given
+    ensures { λ r. ⌜ r ≡ boundFrom number (byte ∷ []) ⌝ }
+{
+    if byte < b'0' {
+        return Given::NoBound;
+    }
+    if b'9' < byte {
+        return Given::NoBound;
+    }
+    let next = 10 * (number as usize) + ((byte - b'0') as usize);
+    if 255 < next {
+        return Given::NoBound;
+    }
+    Given::Bound(next as u8)
+}
+
+// Nothing but digits makes a bound, and no digits make none.
+fn bound_given(digits: &[u8]) -> Given
+    ensures { λ r. ⌜ r ≡ boundGiven (now (digits .entry)) ⌝ }
+{
+    if digits.len() == 0 {
+        return Given::NoBound;
+    }
+    let mut number = 0;
+    let mut i = 0;
+    while i < digits.len() {
+        match with_digit(number, digits[i]) {
+            Given::Bound(next) => {
+                number = next;
+            }
+            Given::NoBound => {
+                return Given::NoBound;
+            }
+        }
+        i += 1;
+    }
+    Given::Bound(number)
+}
+
 fn print_usage() {
     io::write_all(
         STDOUT_FILENO,
-        b"usage: bureau check D | build D OUT | run D U | compare D U | judge D S | cost D\n",
+        b"usage: bureau check D | build D OUT | run D U | compare D U | judge D S | cost D | find U BOUND OUT\n",
     );
 }
 
@@ -171,6 +236,20 @@ fn print_of_two(operation: &[u8]) {
     }
 }
 
+// An operation on two files, with a number between their names.
+fn print_of_three(operation: &[u8]) {
+    if !is_word(operation, b"find") {
+        print_usage();
+        return;
+    }
+    let mut digits = io::buffer();
+    let n = os::arg(3, &mut digits);
+    match bound_given(&digits[..n]) {
+        Given::Bound(bound) => print_find(bound),
+        Given::NoBound => print_usage(),
+    }
+}
+
 // The program's own name and the operation come before the names of files.
 fn main() {
     let mut operation = io::buffer();
@@ -180,6 +259,8 @@ fn main() {
         print_of_one(&operation[..n]);
     } else if words == 4 {
         print_of_two(&operation[..n]);
+    } else if words == 5 {
+        print_of_three(&operation[..n]);
     } else {
         print_usage();
     }

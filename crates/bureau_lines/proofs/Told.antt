@@ -10,6 +10,7 @@ use lib.ListN.{length, take, drop, length-append}
 use lib.Seq.{take-at}
 use Rattle.rules.specs.declared.Refusal.{Refusal}
 use Rattle.rules.specs.declared.Built.the-variants.{Written, Refused as BuildRefused}
+use Rattle.rules.specs.declared.Found.the-variants.{Written as FoundWritten, Refused as FindRefused}
 use Rattle.rules.specs.declared.Ran.{Ran}
 use Rattle.rules.specs.declared.Ran.the-variants.{Passes, Fails, Refused as RunRefused}
 use Rattle.rules.specs.declared.Compared.{Compared}
@@ -17,6 +18,7 @@ use Rattle.rules.specs.declared.Compared.the-variants.{Equal, Differs, Refused 
 use Rattle.rules.specs.Words.{Word, Valid}
 use Rattle.rules.specs.Answers.{Said}
 use Rattle.rules.specs.Operations.{Outcome, fine, refuse, build, overwritten, Trial, run, failingOf, verdict, runAnswer, compare, comparison, compareAnswer, answered}
+use Rattle.rules.specs.Find.{find}
 use Rattle.rules.specs.Promises.{ComparePromise}
 use Rattle.rules.specs.Line.{text, decimal, line, runLine}
 use Rattle.theory.specs.Answers.{compare-answer}
@@ -30,7 +32,7 @@ use Rattle.line.proofs.Failing.{valid-wider}
 use Rattle.bureau_refusals.specs.Values.{spelled, refusedLine}
 use Rattle.line.specs.Lines.{Says}
 use Rattle.bureau_lines.specs.declared.BuiltLine.{BuiltLine}
-use Rattle.bureau_lines.specs.Lines.{builtLength, BuildLinePromise, trialLine, tellingRoom, comparedLine, compareLine}
+use Rattle.bureau_lines.specs.Lines.{builtLength, BuildLinePromise, foundLength, FindLinePromise, trialLine, tellingRoom, comparedLine, compareLine}
 
 -- an answer r, which is v
 module _ {A : Type 0} {r v : A} (is : r ≡ v) where
@@ -124,10 +126,17 @@ module _ (s t out left : List ℕ) (r : Compared) (promise : ComparePromise s t 
   unfolding compareLine
   differs-told n w = rw (w .found, w .written)
 
--- what build wrote stands in the output
+-- what was written stands in the output
+written-inside : {A : Type 0} (written : ℕ → A) (refused : Refusal → A) (lengthOf : A → ℕ) → ((n : ℕ) → lengthOf (written n) ≡ n)
+    → ((f : Refusal) → lengthOf (refused f) ≡ 0) → (o : Outcome (List ℕ)) (out : List ℕ)
+    → lengthOf (answered o (λ b. written (length b)) refused) ≤ length (answered o (λ b. overwritten b out) (λ f. out))
+written-inside written refused lengthOf all nothing (fine b) out = rw (all (length b), length-append b) (omega arith)
+written-inside written refused lengthOf all nothing (refuse f) out = rw (nothing f) (omega arith)
+
 pub built-inside : {s out left : List ℕ} {r : BuiltLine} → BuildLinePromise s out r left → r .length ≤ length left
-built-inside {s} {out} {left} {r} promise = rw (promise .length, promise .output) (go (build s out))
-  where
-    go : (o : Outcome (List ℕ)) → builtLength (answered o (λ b. Written (length b)) BuildRefused) ≤ length (answered o (λ b. overwritten b out) (λ f. out))
-    go (fine b) = rw (length-append b) (omega arith)
-    go (refuse f) = omega arith
+built-inside {s} {out} {left} {r} promise =
+    rw (promise .length, promise .output) (written-inside Written BuildRefused builtLength (λ n. refl) (λ f. refl) (build s out) out)
+
+pub found-inside : {s : List ℕ} {bound : ℕ} {out left : List ℕ} {r : BuiltLine} → FindLinePromise s bound out r left → r .length ≤ length left
+found-inside {s} {bound} {out} {left} {r} promise =
+    rw (promise .length, promise .output) (written-inside FoundWritten FindRefused foundLength (λ n. refl) (λ f. refl) (find s bound out) out)

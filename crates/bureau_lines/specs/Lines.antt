@@ -1,4 +1,4 @@
--- The line of each operation: the verdict in capitals, then its values; of a refusal, all that document 01's table has.
+-- The line of each operation: the verdict in capitals, then its values; of a refusal, all that it returns.
 use Prim.Native.Nat.{ℕ}
 use mathlib.Core.Path.{_≡_}
 use mathlib.Core.List.{List, [], _∷_}
@@ -10,8 +10,11 @@ use Rattle.rules.specs.declared.Built.{Built}
 use Rattle.rules.specs.declared.Built.the-variants.{Written, Refused as BuildRefused}
 use Rattle.rules.specs.declared.Costed.{Costed}
 use Rattle.rules.specs.declared.Costed.the-variants.{Cost, Refused as CostRefused}
+use Rattle.rules.specs.declared.Found.{Found}
+use Rattle.rules.specs.declared.Found.the-variants.{Written as FoundWritten, Refused as FindRefused}
 use Rattle.rules.specs.Words.{Word}
 use Rattle.rules.specs.Operations.{checkAnswer, buildAnswer, buildOutput, run, failingOf, compare, costAnswer, answered}
+use Rattle.rules.specs.Find.{findAnswer, findOutput}
 use Rattle.rules.specs.Line.{text, decimal, line, verdictLine}
 use Rattle.bureau_refusals.specs.Values.{spelled, refusedLine}
 use Rattle.line.specs.Lines.{Says}
@@ -47,6 +50,22 @@ pub record BuildLinePromise (dossierFile out : List ℕ) (r : BuiltLine) (left :
   pub says : Says (builtLine (buildAnswer dossierFile out)) (r .line)
   pub length : r .length ≡ builtLength (buildAnswer dossierFile out)
   pub output : left ≡ buildOutput dossierFile out
+
+-- the length of the dossier that was written
+abbrev pub foundLine : Found → List ℕ
+foundLine (FoundWritten n) = line (text "FOUND" ∷ decimal n ∷ [])
+foundLine (FindRefused r) = refusedLine r
+
+-- how many bytes were written
+abbrev pub foundLength : Found → ℕ
+foundLength (FoundWritten n) = n
+foundLength (FindRefused r) = 0
+
+-- the answer's line and length, and the output as find leaves it; `bound` is the number that was passed
+pub record FindLinePromise (unitFile : List ℕ) (bound : ℕ) (out : List ℕ) (r : BuiltLine) (left : List ℕ) : Type 0 where
+  pub says : Says (foundLine (findAnswer unitFile bound out)) (r .line)
+  pub length : r .length ≡ foundLength (findAnswer unitFile bound out)
+  pub output : left ≡ findOutput unitFile bound out
 
 -- PASSES and FAILS as the program `run` prints them
 unfoldable pub trialLine : List ℕ → List ℕ → List ℕ

@@ -12,12 +12,14 @@ use Rattle.rules.specs.Sizes.{mostDossierBytes, mostUnitBytes}
 use Rattle.rules.specs.Files.{golden, unit}
 use Rattle.rules.specs.Reading.{Reader, dossier, unitTable}
 use Rattle.rules.specs.Operations.{refuse, readFile, build, compare}
+use Rattle.rules.specs.Find.{find}
 use Rattle.theory.specs.Outcomes.{read-refuses}
 use Rattle.theory.specs.Files.{dossier-sized, unit-sized}
 use Rattle.theory.specs.Machines.{golden-complete}
 use Rattle.theory.specs.Sound.{seven, eight, nine, ten}
 use Rattle.theory.specs.Build
 use Rattle.theory.specs.Build.{BuildRefuses, build-refuses}
+use Rattle.theory.specs.FoundSize.{find-never-over}
 use Rattle.theory.specs.Compare
 use Rattle.theory.specs.Compare.{CompareRefuses, telling-short, compare-refuses}
 use Rattle.bureau_lines.specs.Lines.{tellingRoom}
@@ -55,3 +57,9 @@ build-has-room s out n long e = go (build-refuses s out (NoRoom n) .0 e)
     go (Build.unsound d reads (ten h reached separator p q low is)) = let z : _≡_ {A = ℕ} 0 1 = cc in absurd (omega arith)
     go (Build.over-size d reads s over is) = cc
     go (Build.no-room d reads s small short is) = absurd (omega (arith, small, short, long))
+
+-- A found dossier is never over its size, so find never answers 17.
+pub find-has-room : (unitFile : List ℕ) (bound : ℕ) (out : List ℕ) (n : ℕ) → length out ≡ mostDossierBytes → find unitFile bound out ≢ refuse (NoRoom n)
+find-has-room s bound out n long e =
+    let (u, d, drafts, short, is, small) = find-never-over s bound out n e in
+    omega (arith, short, is, small, long)

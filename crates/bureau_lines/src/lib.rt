@@ -1,10 +1,11 @@
-// The line of each operation (docs/LINES.md): the answer of document 01, and every value that it has.
+// The line of each operation (docs/LINES.md): the answer of documents 01 and 02, and every value that it has.
 mod plain;
 
 use builder::build;
 use bureau_refusals::refused_line;
 use checker::check;
 use comparer::compare;
+use finder::find;
 use line::Line;
 use line::run_line;
 use plain::number_line;
@@ -15,14 +16,15 @@ use rules::Built;
 use rules::Checked;
 use rules::Compared;
 use rules::Costed;
+use rules::Found;
 use rules::Ran;
 use runner::cost;
 use runner::run;
 ghost use mathlib.Core.Path.{_≡_};
 ghost use Rattle.line.specs.Lines.{Says};
-ghost use Rattle.bureau_lines.specs.Lines.{checkLine, costLine, BuildLinePromise, trialLine, tellingRoom, compareLine};
+ghost use Rattle.bureau_lines.specs.Lines.{checkLine, costLine, BuildLinePromise, FindLinePromise, trialLine, tellingRoom, compareLine};
 
-// The line of build, and how many bytes of its output it wrote: none where it refuses.
+// The line of build or of find, and how many bytes of its output it wrote: none where it refuses.
 pub struct BuiltLine {
     pub line: Line,
     pub length: usize,
@@ -55,6 +57,21 @@ pub fn build_line(dossier: &[u8], out: &mut [u8]) -> BuiltLine
             length,
         },
         Built::Refused(r) => BuiltLine {
+            line: refused_line(r),
+            length: 0,
+        },
+    }
+}
+
+pub fn find_line(unit: &[u8], bound: u8, out: &mut [u8]) -> BuiltLine
+    ensures { λ r. ⌜ FindLinePromise (now (unit .entry)) bound (now (out .entry)) r (now (out .exit)) ⌝ }
+{
+    match find(unit, bound, out) {
+        Found::Written(length) => BuiltLine {
+            line: number_line(b"FOUND", length),
+            length,
+        },
+        Found::Refused(r) => BuiltLine {
             line: refused_line(r),
             length: 0,
         },

@@ -1,10 +1,10 @@
--- Document 01, the table of refusals: the line of a refusal, with every value that it returns.
+-- Document 01, the table of refusals, with those of document 02: the line of a refusal, with every value that it returns.
 use Prim.Native.Nat.{ℕ}
 use mathlib.Core.List.{List, [], _∷_, _++_}
 use lib.ListN.{take}
 use Rattle.rules.specs.declared.Middle.{Middle}
 use Rattle.rules.specs.declared.Refusal.{Refusal}
-use Rattle.rules.specs.declared.Refusal.the-variants.{Malformed, NoEmptyWord, Unreached, NoSeparator, NotSeparated, Missing, Repeated, Foreign, Absent, OtherInputs, TooManyStates, NoRoom}
+use Rattle.rules.specs.declared.Refusal.the-variants.{Malformed, NoEmptyWord, Unreached, NoSeparator, NotSeparated, Missing, Repeated, Foreign, Absent, OtherInputs, TooManyStates, NoRoom, NotReduced}
 use Rattle.rules.specs.Words.{Word}
 use Rattle.rules.specs.Answers.{numberOf}
 use Rattle.rules.specs.Line.{text, decimal, hex, line, letter}
@@ -25,7 +25,7 @@ middleWord y = take (y .len) (fiveInputs y)
 abbrev pub valueWords : Refusal → List (List ℕ)
 valueWords (Malformed fault f p) = letter f ∷ decimal p ∷ []
 valueWords NoEmptyWord = []
-valueWords (Unreached q) = decimal (q .0) ∷ []
+valueWords (Unreached f q) = decimal (q .0) ∷ []
 valueWords NoSeparator = []
 valueWords (NotSeparated p q) = decimal (p .0) ∷ decimal (q .0) ∷ []
 valueWords (Missing c y s) = decimal c ∷ spelled (middleWord y) ∷ decimal s ∷ []
@@ -35,6 +35,7 @@ valueWords (Absent t) = decimal t ∷ []
 valueWords OtherInputs = []
 valueWords TooManyStates = []
 valueWords (NoRoom n) = decimal n ∷ []
+valueWords (NotReduced p q) = decimal (p .0) ∷ decimal (q .0) ∷ []
 
 unfoldable pub refusedLine : Refusal → List ℕ
 refusedLine r = line (text "REFUSED" ∷ decimal (numberOf r) ∷ valueWords r)

@@ -1,4 +1,4 @@
-// The line of a refusal, with every value of document 01's table.
+// The line of a refusal, with every value that it returns.
 use line::Line;
 use line::no_text;
 use line::put_spot;
@@ -98,7 +98,7 @@ fn put_values(r: Refusal, out: &mut [u8], at: usize) -> usize
     match r {
         Refusal::Malformed(_, file, place) => put_spot(file, place, out, at),
         Refusal::NoEmptyWord => put_line_feed(out, at),
-        Refusal::Unreached(q) => put_last(q.number() as usize, out, at),
+        Refusal::Unreached(_, q) => put_last(q.number() as usize, out, at),
         Refusal::NoSeparator => put_line_feed(out, at),
         Refusal::NotSeparated(p, q) => put_two(p.number() as usize, q.number() as usize, out, at),
         Refusal::Missing(cover, y, separator) => put_missing(cover, y, separator, out, at),
@@ -108,6 +108,7 @@ fn put_values(r: Refusal, out: &mut [u8], at: usize) -> usize
         Refusal::OtherInputs => put_line_feed(out, at),
         Refusal::TooManyStates => put_line_feed(out, at),
         Refusal::NoRoom(needed) => put_last(needed, out, at),
+        Refusal::NotReduced(p, q) => put_two(p.number() as usize, q.number() as usize, out, at),
     }
 }
 

@@ -14,11 +14,12 @@ use Rattle.rules.specs.declared.Ran.{Ran}
 use Rattle.rules.specs.declared.Compared.{Compared}
 use Rattle.rules.specs.declared.Judged.{Judged}
 use Rattle.rules.specs.declared.Costed.{Costed}
-use Rattle.rules.specs.Answers.{Said, well, checkSays, buildSays, runSays, compareSays, judgeSays, costSays}
+use Rattle.rules.specs.declared.Found.{Found}
+use Rattle.rules.specs.Answers.{Said, well, checkSays, buildSays, runSays, compareSays, judgeSays, costSays, findSays}
 use Rattle.rules.specs.Operations.{Part, partOf, judgedPart}
-use Rattle.rules.specs.Promises.{CheckPromise, BuildPromise, RunPromise, ComparePromise, JudgePromise, JudgeWordPromise, CostPromise}
-use Rattle.theory.specs.Answers.{value, checkSaid, check-said, buildSaid, build-said, runSaid, run-said, compareSaid, compare-said, judgeSaid, judge-said, costSaid, cost-said}
-use Rattle.theory.specs.Bounds.{Fits, PlainFits, MissingFits, check-fits, build-fits, run-fits, compare-fits, judge-fields-fit, judged-part-fits, cost-fits}
+use Rattle.rules.specs.Promises.{CheckPromise, BuildPromise, RunPromise, ComparePromise, JudgePromise, JudgeWordPromise, CostPromise, FindPromise}
+use Rattle.theory.specs.Answers.{value, checkSaid, check-said, buildSaid, build-said, runSaid, run-said, compareSaid, compare-said, judgeSaid, judge-said, costSaid, cost-said, findSaid, find-said}
+use Rattle.theory.specs.Bounds.{Fits, PlainFits, MissingFits, check-fits, build-fits, run-fits, compare-fits, judge-fields-fit, judged-part-fits, cost-fits, find-fits}
 use Rattle.hegdorvin_packing.specs.Packed.{packedPlain, packedMissing, packed}
 
 -- the values in a packed MISSING, in the order of the paper
@@ -136,6 +137,9 @@ made-judge s t h = rw (h .number, h .file, h .values 0, h .values 1, h .values 2
 made-cost : Made costSaid
 made-cost s t h = rw (h .number, h .file, h .values 0, h .values 1, h .values 2, h .values 3, h .values 4, h .values 5, h .values 6, h .values 7)
 
+made-find : Made findSaid
+made-find s t h = rw (h .number, h .file, h .values 0, h .values 1, h .values 2, h .values 3, h .values 4, h .values 5, h .values 6, h .values 7)
+
 -- Unpacking a packed answer gives the answer back, for every answer that the promise allows.
 pub check-unpacks : (bytes : List ℕ) (r : Checked) → CheckPromise bytes r → checkSaid (unpacked (packed (checkSays r))) ≡ r
 check-unpacks bytes r promise = back checkSays checkSaid check-said made-check r (check-fits bytes r promise)
@@ -165,3 +169,6 @@ judge-word-unpacks dossier sheet =
 
 pub cost-unpacks : (bytes : List ℕ) (r : Costed) → CostPromise bytes r → costSaid (unpacked (packed (costSays r))) ≡ r
 cost-unpacks bytes r promise = back costSays costSaid cost-said made-cost r (cost-fits bytes r promise)
+
+pub find-unpacks : (unit : List ℕ) (bound : ℕ) (out : List ℕ) (r : Found) (left : List ℕ) → FindPromise unit bound out r left → findSaid (unpacked (packed (findSays r))) ≡ r
+find-unpacks unit bound out r left promise = back findSays findSaid find-said made-find r (find-fits unit bound out r left promise)

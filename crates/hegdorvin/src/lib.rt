@@ -2,10 +2,12 @@
 use builder::build;
 use checker::check;
 use comparer::compare;
+use finder::find;
 use hegdorvin_packing::built;
 use hegdorvin_packing::checked;
 use hegdorvin_packing::compared;
 use hegdorvin_packing::costed;
+use hegdorvin_packing::found;
 use hegdorvin_packing::judged;
 use hegdorvin_packing::part;
 use hegdorvin_packing::ran;
@@ -15,8 +17,9 @@ use runner::cost;
 use runner::run;
 ghost use mathlib.Core.Path.{_≡_};
 ghost use mathlib.Core.List.{[], _∷_};
-ghost use Rattle.rules.specs.Answers.{well, checkSays, buildSays, runSays, compareSays, judgeSays, costSays};
+ghost use Rattle.rules.specs.Answers.{well, checkSays, buildSays, runSays, compareSays, judgeSays, costSays, findSays};
 ghost use Rattle.rules.specs.Operations.{checkAnswer, buildAnswer, buildOutput, runAnswer, compareAnswer, compareOutput, judgeAnswer, judgedPart, costAnswer};
+ghost use Rattle.rules.specs.Find.{findAnswer, findOutput};
 ghost use Rattle.hegdorvin_packing.specs.Packed.{packed};
 
 #[no_mangle]
@@ -68,4 +71,11 @@ pub extern "C" fn hegdorvin_cost(dossier: &[u8]) -> u64
     ensures { λ r. ⌜ r ≡ packed (costSays (costAnswer (now (dossier .entry)))) ⌝ }
 {
     costed(cost(dossier))
+}
+
+#[no_mangle]
+pub extern "C" fn hegdorvin_find(unit: &[u8], bound: u8, out: &mut [u8]) -> u64
+    ensures { λ r. ⌜ (r ≡ packed (findSays (findAnswer (now (unit .entry)) bound (now (out .entry))))) × (now (out .exit) ≡ findOutput (now (unit .entry)) bound (now (out .entry))) ⌝ }
+{
+    found(find(unit, bound, out))
 }

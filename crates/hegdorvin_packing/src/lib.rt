@@ -5,6 +5,7 @@ use rules::Built;
 use rules::Checked;
 use rules::Compared;
 use rules::Costed;
+use rules::Found;
 use rules::Judged;
 use rules::Middle;
 use rules::Ran;
@@ -12,7 +13,7 @@ use rules::Refusal;
 ghost use mathlib.Core.Path.{_≡_};
 ghost use mathlib.Core.List.{[], _∷_};
 ghost use Prim.Native.Nat.{_+_, _*_, _<_};
-ghost use Rattle.rules.specs.Answers.{well, refusing, checkSays, buildSays, runSays, compareSays, judgeSays, costSays};
+ghost use Rattle.rules.specs.Answers.{well, refusing, checkSays, buildSays, runSays, compareSays, judgeSays, costSays, findSays};
 ghost use Rattle.rules.specs.declared.Refusal.the-variants.{Missing};
 ghost use Rattle.theory.specs.Bounds.{Fits, SmallRefusal};
 ghost use Rattle.hegdorvin_packing.specs.Packed.{packed};
@@ -139,5 +140,15 @@ pub fn costed(r: Costed) -> u64
     match r {
         Costed::Cost(tests, inputs) => plain(0, 0, tests, inputs),
         Costed::Refused(x) => refusal(x),
+    }
+}
+
+pub fn found(r: Found) -> u64
+    requires { ⌜ Fits (findSays r) ⌝ }
+    ensures { λ n. ⌜ n ≡ packed (findSays r) ⌝ }
+{
+    match r {
+        Found::Written(n) => plain(0, 0, n, 0),
+        Found::Refused(x) => refusal(x),
     }
 }

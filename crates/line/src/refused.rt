@@ -22,6 +22,7 @@ fn initial(file: File) -> u8
         File::Unit => b'U',
         File::Sheet => b'S',
         File::Output => b'O',
+        File::Number => b'N',
     }
 }
 

@@ -1,4 +1,4 @@
-// What a refusal says (document 01, the table of refusals): its number, the file that it concerns, and its first two values, 0
+// What a refusal says (the table of refusals in document 01, and document 02): its number, the file that it concerns, and its first two values, 0
 // where it has none. It is said here once; packing and lines ask for it.
 use rules::File;
 use rules::Refusal;
@@ -32,7 +32,7 @@ pub fn said(r: Refusal) -> Saying
     match r {
         Refusal::Malformed(fault, file, place) => says(fault.number(), file, place, 0),
         Refusal::NoEmptyWord => says(7, File::Dossier, 0, 0),
-        Refusal::Unreached(state) => says(8, File::Dossier, state.number() as usize, 0),
+        Refusal::Unreached(file, state) => says(8, file, state.number() as usize, 0),
         Refusal::NoSeparator => says(9, File::Dossier, 0, 0),
         Refusal::NotSeparated(one, other) => says(
             10,
@@ -47,5 +47,11 @@ pub fn said(r: Refusal) -> Saying
         Refusal::OtherInputs => says(15, File::Unit, 0, 0),
         Refusal::TooManyStates => says(16, File::Unit, 0, 0),
         Refusal::NoRoom(needed) => says(17, File::Output, needed, 0),
+        Refusal::NotReduced(one, other) => says(
+            18,
+            File::Unit,
+            one.number() as usize,
+            other.number() as usize,
+        ),
     }
 }

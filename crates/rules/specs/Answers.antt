@@ -1,16 +1,16 @@
--- Document 01, the table of refusals, and "If an answer is an enum, a definition states this paper's number and values for
--- each of the enum's cases".
+-- Document 01, the table of refusals, with 18 of document 02, L1; and "If an answer is an enum, a definition states this paper's
+-- number and values for each of the enum's cases".
 use Prim.Native.Nat.{ℕ}
 use mathlib.Core.List.{List, [], _∷_}
 use lib.ListN.{length, getD}
 use Rattle.rules.specs.declared.GoldenState.{GoldenState}
 use Rattle.rules.specs.declared.Middle.{Middle}
 use Rattle.rules.specs.declared.File.{File}
-use Rattle.rules.specs.declared.File.the-variants.{Dossier, Unit as UnitFile, Sheet, Output as OutputFile}
+use Rattle.rules.specs.declared.File.the-variants.{Dossier, Unit as UnitFile, Sheet, Output as OutputFile, Number}
 use Rattle.rules.specs.declared.Fault.{Fault}
 use Rattle.rules.specs.declared.Fault.the-variants.{TooLong, CutShort, BadNumbers, BadTable, BadWord, Trailing}
 use Rattle.rules.specs.declared.Refusal.{Refusal}
-use Rattle.rules.specs.declared.Refusal.the-variants.{Malformed, NoEmptyWord, Unreached, NoSeparator, NotSeparated, Missing, Repeated, Foreign, Absent, OtherInputs, TooManyStates, NoRoom}
+use Rattle.rules.specs.declared.Refusal.the-variants.{Malformed, NoEmptyWord, Unreached, NoSeparator, NotSeparated, Missing, Repeated, Foreign, Absent, OtherInputs, TooManyStates, NoRoom, NotReduced}
 use Rattle.rules.specs.declared.Checked.{Checked}
 use Rattle.rules.specs.declared.Checked.the-variants.{Accepted, Refused as CheckRefused}
 use Rattle.rules.specs.declared.Built.{Built}
@@ -23,6 +23,8 @@ use Rattle.rules.specs.declared.Judged.{Judged}
 use Rattle.rules.specs.declared.Judged.the-variants.{Agrees, Deviates, Refused as JudgeRefused}
 use Rattle.rules.specs.declared.Costed.{Costed}
 use Rattle.rules.specs.declared.Costed.the-variants.{Cost, Refused as CostRefused}
+use Rattle.rules.specs.declared.Found.{Found}
+use Rattle.rules.specs.declared.Found.the-variants.{Written as FoundWritten, Refused as FindRefused}
 use Rattle.rules.specs.Words.{Word}
 
 abbrev pub goldenState : ℕ → GoldenState
@@ -40,11 +42,13 @@ middleOf w =
       e = record { 0 = getD w 4 0 };
     }
 
+-- 5 is left for a text
 abbrev pub fileNumber : File → ℕ
 fileNumber Dossier = 1
 fileNumber UnitFile = 2
 fileNumber Sheet = 3
 fileNumber OutputFile = 4
+fileNumber Number = 6
 
 abbrev pub faultNumber : Fault → ℕ
 faultNumber TooLong = 1
@@ -58,7 +62,7 @@ faultNumber Trailing = 6
 abbrev pub numberOf : Refusal → ℕ
 numberOf (Malformed fault f p) = faultNumber fault
 numberOf NoEmptyWord = 7
-numberOf (Unreached q) = 8
+numberOf (Unreached f q) = 8
 numberOf NoSeparator = 9
 numberOf (NotSeparated p q) = 10
 numberOf (Missing c y s) = 11
@@ -68,12 +72,13 @@ numberOf (Absent t) = 14
 numberOf OtherInputs = 15
 numberOf TooManyStates = 16
 numberOf (NoRoom n) = 17
+numberOf (NotReduced p q) = 18
 
 -- the file that it concerns
 abbrev pub fileOf : Refusal → File
 fileOf (Malformed fault f p) = f
 fileOf NoEmptyWord = Dossier
-fileOf (Unreached q) = Dossier
+fileOf (Unreached f q) = f
 fileOf NoSeparator = Dossier
 fileOf (NotSeparated p q) = Dossier
 fileOf (Missing c y s) = Dossier
@@ -83,12 +88,13 @@ fileOf (Absent t) = Sheet
 fileOf OtherInputs = UnitFile
 fileOf TooManyStates = UnitFile
 fileOf (NoRoom n) = OutputFile
+fileOf (NotReduced p q) = UnitFile
 
 -- what is also returned; of a middle, its length and five inputs
 abbrev pub valuesOf : Refusal → List ℕ
 valuesOf (Malformed fault f p) = p ∷ []
 valuesOf NoEmptyWord = []
-valuesOf (Unreached q) = q .0 ∷ []
+valuesOf (Unreached f q) = q .0 ∷ []
 valuesOf NoSeparator = []
 valuesOf (NotSeparated p q) = p .0 ∷ q .0 ∷ []
 valuesOf (Missing c y s) = c ∷ y .len ∷ y .a .0 ∷ y .b .0 ∷ y .c .0 ∷ y .d .0 ∷ y .e .0 ∷ s ∷ []
@@ -98,6 +104,7 @@ valuesOf (Absent t) = t ∷ []
 valuesOf OtherInputs = []
 valuesOf TooManyStates = []
 valuesOf (NoRoom n) = n ∷ []
+valuesOf (NotReduced p q) = p .0 ∷ q .0 ∷ []
 
 -- What an answer says: its number, the number of the file that it concerns, and its values. A verdict concerns no file: 0. A
 -- verdict's number is 0, or 31 where something differs; no refusal has either.
@@ -141,3 +148,7 @@ judgeSays (JudgeRefused r) = refusing r
 abbrev pub costSays : Costed → Said
 costSays (Cost tests inputs) = well (tests ∷ inputs ∷ [])
 costSays (CostRefused r) = refusing r
+
+abbrev pub findSays : Found → Said
+findSays (FoundWritten n) = well (n ∷ [])
+findSays (FindRefused r) = refusing r

@@ -7,6 +7,7 @@ pub mod Reading
 pub mod Needed
 pub mod Answers
 pub mod Operations
+pub mod Find
 pub mod Line
 pub mod Promises
 pub mod Starred

@@ -8,9 +8,9 @@ use mathlib.Core.Option.{Option, none, some}
 use lib.Dec.{ltb}
 use lib.ListN.{length, getD}
 use Rattle.rules.specs.declared.File.{File}
-use Rattle.rules.specs.declared.File.the-variants.{Dossier, Unit as UnitFile, Sheet, Output as OutputFile}
+use Rattle.rules.specs.declared.File.the-variants.{Dossier, Unit as UnitFile, Sheet, Output as OutputFile, Number}
 use Rattle.rules.specs.declared.Refusal.{Refusal}
-use Rattle.rules.specs.declared.Refusal.the-variants.{Malformed, NoEmptyWord, Unreached, NoSeparator, NotSeparated, Missing, Repeated, Foreign, Absent, OtherInputs, TooManyStates, NoRoom}
+use Rattle.rules.specs.declared.Refusal.the-variants.{Malformed, NoEmptyWord, Unreached, NoSeparator, NotSeparated, Missing, Repeated, Foreign, Absent, OtherInputs, TooManyStates, NoRoom, NotReduced}
 use Rattle.rules.specs.Words.{Word}
 use Rattle.rules.specs.Machines.{answer}
 use Rattle.rules.specs.Files.{golden, unit}
@@ -51,12 +51,13 @@ letter Dossier = text "D"
 letter UnitFile = text "U"
 letter Sheet = text "S"
 letter OutputFile = text "O"
+letter Number = text "N"
 
 -- for 1 to 6 the file's letter and the place
 abbrev pub spot : Refusal → List (List ℕ)
 spot (Malformed fault f p) = letter f ∷ decimal p ∷ []
 spot NoEmptyWord = []
-spot (Unreached q) = []
+spot (Unreached f q) = []
 spot NoSeparator = []
 spot (NotSeparated p q) = []
 spot (Missing c y s) = []
@@ -66,6 +67,7 @@ spot (Absent t) = []
 spot OtherInputs = []
 spot TooManyStates = []
 spot (NoRoom n) = []
+spot (NotReduced p q) = []
 
 abbrev pub refusalLine : Refusal → List ℕ
 refusalLine r = line (text "REFUSED" ∷ decimal (numberOf r) ∷ spot r)

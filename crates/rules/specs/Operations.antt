@@ -25,7 +25,7 @@ use Rattle.rules.specs.declared.Costed.the-variants.{Cost, Refused as Co
 use Rattle.rules.specs.Lists.{placed, first, sum}
 use Rattle.rules.specs.Sizes.{mostDossierBytes, mostUnitBytes, mostSheetBytes}
 use Rattle.rules.specs.Words.{Word, same, isIn, shortlex}
-use Rattle.rules.specs.Machines.{Machine, answer}
+use Rattle.rules.specs.Machines.{Machine, answerFrom, answer}
 use Rattle.rules.specs.Files.{DossierData, UnitData, SheetRecord, golden, unit, bound, withTests, wordBytes, frontBytes, dossierBytes}
 use Rattle.rules.specs.Reading.{Got, got, faulty, Reader, dossier, unitTable, sheet}
 use Rattle.rules.specs.Needed.{unreached, unseparated, missing, builtTests}
@@ -80,7 +80,7 @@ readSheet k bytes = readFile Sheet mostSheetBytes (sheet k) bytes
 unfoldable pub sound : DossierData → Outcome (Unit {0})
 sound d = do
   require (isIn [] (d .cover)) NoEmptyWord
-  requireNone (unreached d) (λ q. Unreached (goldenState q))
+  requireNone (unreached d) (λ q. Unreached Dossier (goldenState q))
   require (ltb 0 (length (d .separating))) NoSeparator
   requireNone (unseparated d) (λ (p, q). NotSeparated (goldenState p) (goldenState q))
 
@@ -107,15 +107,19 @@ fits w out = require (leb (length w) (length out)) (NoRoom (length w))
 abbrev pub overwritten : List ℕ → List ℕ → List ℕ
 overwritten w out = w ++ drop (length w) out
 
+-- 17, where the bytes of a dossier are to be written: 65,536 for any dossier over its size
+abbrev pub writable : List ℕ → List ℕ → Outcome (List ℕ)
+writable bytes out = do
+  require (leb (length bytes) mostDossierBytes) (NoRoom (suc mostDossierBytes))
+  fits bytes out
+  fine bytes
+
 -- what build writes: 1 to 10, then 17
 unfoldable pub build : List ℕ → List ℕ → Outcome (List ℕ)
 build bytes out = do
   d ← readDossier bytes
   sound d
-  let built = dossierBytes (withTests d (builtTests d)) in do
-    require (leb (length built) mostDossierBytes) (NoRoom (suc mostDossierBytes))
-    fits built out
-    fine built
+  writable (dossierBytes (withTests d (builtTests d))) out
 
 abbrev pub buildAnswer : List ℕ → List ℕ → Built
 buildAnswer bytes out = answered (build bytes out) (λ built. Written (length built)) BuildRefused
@@ -157,11 +161,15 @@ verdict t (some (i, w)) = Fails i (firstDifference (answer (golden (t .dossier))
 abbrev pub runAnswer : List ℕ → List ℕ → Ran
 runAnswer dossierFile unitFile = answered (run dossierFile unitFile) (λ t. verdict t (failingOf t)) RunRefused
 
+-- The shortest word over k inputs that two states, of one machine or of two, answer differently, among equals the first by
+-- inputs. It is looked for among the words of at most b inputs.
+abbrev pub tellingFrom : ℕ → ℕ → Machine → ℕ → Machine → ℕ → Option Word
+tellingFrom k b G p U q = first (λ w. not (same (answerFrom G p w) (answerFrom U q w))) (shortlex k b)
+
 -- The shortest word that tells golden and unit apart, among equals the first by inputs. Where any does, one of at most
 -- n + u - 1 inputs does.
 unfoldable pub telling : DossierData → UnitData → Option Word
-telling d u =
-    first (λ w. not (same (answer (golden d) w) (answer (unit u) w))) (shortlex (d .inputs) (d .states + u .states - 1))
+telling d u = tellingFrom (d .inputs) (d .states + u .states - 1) (golden d) 0 (unit u) 0
 
 -- 17, where there is a word to write
 abbrev pub fitsIfAny : Option Word → List ℕ → Outcome (Unit {0})

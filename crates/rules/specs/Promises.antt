@@ -1,4 +1,4 @@
--- Document 01, "What the proofs owe us": for each public operation the one possible answer and every output byte afterwards.
+-- Document 01, "What the proofs owe us", for the operations of documents 01 and 02: for each public operation the one possible answer and every output byte afterwards.
 use mathlib.Core.Path.{_≡_}
 use mathlib.Core.List.{List}
 use Prim.Native.Nat.{ℕ}
@@ -8,8 +8,10 @@ use Rattle.rules.specs.declared.Ran.{Ran}
 use Rattle.rules.specs.declared.Compared.{Compared}
 use Rattle.rules.specs.declared.Judged.{Judged}
 use Rattle.rules.specs.declared.Costed.{Costed}
-use Rattle.rules.specs.Answers.{checkSays, buildSays, runSays, compareSays, judgeSays, costSays}
+use Rattle.rules.specs.declared.Found.{Found}
+use Rattle.rules.specs.Answers.{checkSays, buildSays, runSays, compareSays, judgeSays, costSays, findSays}
 use Rattle.rules.specs.Operations.{checkAnswer, buildAnswer, buildOutput, runAnswer, compareAnswer, compareOutput, judgeAnswer, partOf, judgedPart, costAnswer}
+use Rattle.rules.specs.Find.{findAnswer, findOutput}
 use Rattle.rules.specs.Line.{runLine}
 
 abbrev pub CheckPromise : List ℕ → Checked → Type 0
@@ -35,6 +37,10 @@ JudgeWordPromise dossier sheet part = part ≡ partOf dossier (judgedPart dossie
 
 abbrev pub CostPromise : List ℕ → Costed → Type 0
 CostPromise dossier r = costSays r ≡ costSays (costAnswer dossier)
+
+-- `bound` is the number that was passed
+abbrev pub FindPromise : List ℕ → ℕ → List ℕ → Found → List ℕ → Type 0
+FindPromise unit bound out r left = (findSays r ≡ findSays (findAnswer unit bound out)) × (left ≡ findOutput unit bound out)
 
 -- `line` is what the program `run` prints
 abbrev pub LinePromise : List ℕ → List ℕ → List ℕ → Type 0

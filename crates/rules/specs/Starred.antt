@@ -1,5 +1,5 @@
 -- Document 01, "Worked pieces": the cases with a star, as theorems of the definitions, in one table under one statement. Rows
--- of our own follow them.
+-- of our own follow them, also for the operations of document 02.
 use Prim.Native.Nat.{ℕ, _*_}
 use mathlib.Core.Path.{_≡_, refl}
 use mathlib.Core.List.{List, [], _∷_, _++_, map, flatMap}
@@ -12,10 +12,12 @@ use Rattle.rules.specs.declared.Compared.{Compared}
 use Rattle.rules.specs.declared.Compared.the-variants.{Differs}
 use Rattle.rules.specs.declared.Judged.{Judged}
 use Rattle.rules.specs.declared.Judged.the-variants.{Agrees, Deviates}
-use Rattle.rules.specs.declared.File.the-variants.{Dossier, Unit as UnitFile, Sheet}
+use Rattle.rules.specs.declared.File.the-variants.{Dossier, Unit as UnitFile, Sheet, Number}
 use Rattle.rules.specs.declared.Fault.{Fault}
 use Rattle.rules.specs.declared.Fault.the-variants.{TooLong, CutShort, BadNumbers, BadTable, BadWord, Trailing}
-use Rattle.rules.specs.declared.Refusal.the-variants.{Malformed, NoEmptyWord, Unreached, NoSeparator, NotSeparated, Missing, NoRoom}
+use Rattle.rules.specs.declared.Found.{Found}
+use Rattle.rules.specs.declared.Found.the-variants.{Written as FoundWritten, Refused as FindRefused}
+use Rattle.rules.specs.declared.Refusal.the-variants.{Malformed, NoEmptyWord, Unreached, NoSeparator, NotSeparated, Missing, NoRoom, NotReduced}
 use Rattle.rules.specs.Lists.{sum}
 use Rattle.rules.specs.Words.{Word, wordsOf, shortlex}
 use Rattle.rules.specs.Machines.{answer}
@@ -24,6 +26,7 @@ use Rattle.rules.specs.Reading.{byte, judged, count, many, word, words, 
 use Rattle.rules.specs.Needed.{middles, needed, neededWords, unreached, pairs, unseparated, missing, distinct, maximalOf, builtTests}
 use Rattle.rules.specs.Answers.{goldenState, middleOf}
 use Rattle.rules.specs.Operations.{Outcome, fine, refuse, answered, readFile, readSheet, readDossier, readUnit, sound, enough, check, checkAnswer, build, buildAnswer, buildOutput, run, runAnswer, telling, compare, compareAnswer, compareOutput, repeated, foreign, absent, pair, judge, judgeAnswer, partOf, testPart, judgedPart}
+use Rattle.rules.specs.Find.{accessWord, tellingWord, unreachable, untold, foundCover, foundSeparating, find, findAnswer, findOutput}
 use Rattle.rules.specs.Line.{text, decimal, runLine}
 
 -- The bytes of sections: numbers and table of G, its cover, its separating words.
@@ -87,6 +90,26 @@ built3 = dossierG 3 coverG separatingG tests3
 -- V: two numbers, six entries
 abbrev pub unitV : List ℕ
 unitV = 2 ∷ 0 ∷ 2 ∷ 3 ∷ 6 ∷ 0 ∷ 2 ∷ 0 ∷ 1 ∷ 0 ∷ 0 ∷ 1 ∷ 1 ∷ 0 ∷ 2 ∷ 0 ∷ 2 ∷ 0 ∷ []
+
+-- G as a unit
+abbrev pub unitG : List ℕ
+unitG = (2 ∷ 0 ∷ 2 ∷ 2 ∷ []) ++ tableG
+
+-- Four states, two inputs: state 0 goes to 1 by both, 1 to 2 and 3, 2 stays, 3 goes to 0; outputs 0 and 0, 1 and 0, 1 and 1, 0 and 0.
+abbrev table4 : List ℕ
+table4 = 8 ∷ 0 ∷ 1 ∷ 0 ∷ 1 ∷ 0 ∷ 2 ∷ 1 ∷ 3 ∷ 0 ∷ 2 ∷ 1 ∷ 2 ∷ 1 ∷ 0 ∷ 0 ∷ 0 ∷ 0 ∷ []
+
+abbrev unit4 : List ℕ
+unit4 = (2 ∷ 0 ∷ 2 ∷ 4 ∷ []) ++ table4
+
+-- its dossier: cover empty, 0, 00, 01; separating 0, 00, 1; no tests
+abbrev dossier4 : ℕ → List ℕ
+dossier4 m =
+    (3 ∷ 0 ∷ 2 ∷ 4 ∷ m ∷ []) ++ table4 ++ (4 ∷ 0 ∷ 0 ∷ 1 ∷ 0 ∷ 2 ∷ 0 ∷ 0 ∷ 2 ∷ 0 ∷ 1 ∷ []) ++ (3 ∷ 0 ∷ 1 ∷ 0 ∷ 2 ∷ 0 ∷ 0 ∷ 1 ∷ 1 ∷ []) ++ noWords
+
+-- a unit of one input: the next state and the output of each state
+abbrev unitOf1 : List (ℕ × ℕ) → List ℕ
+unitOf1 entries = (2 ∷ 0 ∷ 1 ∷ length entries ∷ length entries ∷ 0 ∷ []) ++ flatMap (λ (q, o). q ∷ o ∷ []) entries
 
 -- one state, one input, output 0, cover the empty word
 abbrev dossier1 : ℕ → List ℕ → List ℕ → List ℕ
@@ -156,6 +179,10 @@ Builds bytes out r left = (buildAnswer bytes out ≡ r) × (buildOutput bytes ou
 -- what compare answers and leaves in an output
 abbrev Compares : List ℕ → List ℕ → List ℕ → Compared → List ℕ → Type 0
 Compares bytes other out r left = (compareAnswer bytes other out ≡ r) × (compareOutput bytes other out ≡ left)
+
+-- what find answers and leaves in an output
+abbrev Finds : List ℕ → ℕ → List ℕ → Found → List ℕ → Type 0
+Finds bytes m out r left = (findAnswer bytes m out ≡ r) × (findOutput bytes m out ≡ left)
 
 -- what the judge answers, where the part that it hands back stands, and the part
 abbrev Judges : List ℕ → List ℕ → Judged → ℕ → List ℕ → Type 0
@@ -238,7 +265,7 @@ pub record Starred : Type 0 where
   -- without the empty word in the cover: 7
   pub no-empty-word : checkAnswer (dossierG 2 only1 separatingG tests2) ≡ CheckRefused NoEmptyWord
   -- with cover only the empty word: 8, state 1
-  pub unreached-1 : checkAnswer (dossierG 2 onlyEmpty separatingG tests2) ≡ CheckRefused (Unreached (goldenState 1))
+  pub unreached-1 : checkAnswer (dossierG 2 onlyEmpty separatingG tests2) ≡ CheckRefused (Unreached Dossier (goldenState 1))
   -- separating emptied: 9
   pub no-separator : checkAnswer (dossierG 2 coverG noWords tests2) ≡ CheckRefused NoSeparator
   -- separating only 1: 10, states 0 and 1
@@ -337,9 +364,26 @@ pub record Starred : Type 0 where
   pub trailing : (DossierRefused (built2 ++ (0 ∷ [])) Trailing 37) × (DossierRefused (built2 ++ (0 ∷ 0 ∷ [])) Trailing 37)
       × (UnitRefused (unitV ++ (0 ∷ [])) Trailing 18) × (SheetRefused (sheet2′ ++ (0 ∷ [])) Trailing 21)
       × (SheetRefused (noWords ++ (0 ∷ [])) Trailing 2)
+  -- Document 02, L1: for G as a unit cover empty, 1 and separating 0, 26 bytes; 0 for the bound is written as 0
+  pub find-0 : Finds unitG 0 (blank 28) (FoundWritten 26) (dossierG 0 coverG separatingG noWords ++ blank 2)
+  pub find-2 : Finds unitG 2 (blank 26) (FoundWritten 26) (dossierG 2 coverG separatingG noWords)
+  pub find-3 : Finds unitG 3 (blank 26) (FoundWritten 26) (dossierG 3 coverG separatingG noWords)
+  -- 25 bytes are NO ROOM, needed 26
+  pub find-no-room : Finds unitG 0 (blank 25) (FindRefused (NoRoom 26)) (blank 25)
+  -- the lowest of equals; the order of pairs, where 03 comes before 12; each telling word once
+  pub find-4 : Finds unit4 0 (blank 45) (FoundWritten 45) (dossier4 0)
+  -- one state: cover and separating the empty word
+  pub find-one-state : Finds (unitOf1 ((0, 0) ∷ [])) 0 (blank 17) (FoundWritten 17) (dossier1 0 onlyEmpty noWords)
+  -- a bound of n - 1 or of n + 5 is 3 for the number that was passed, before anything of the states
+  pub find-low-bound : Finds unitG 1 (blank 26) (FindRefused (Malformed BadNumbers Number 0)) (blank 26)
+  pub find-high-bound : Finds (unitOf1 ((0, 0) ∷ (1, 0) ∷ [])) 7 (blank 26) (FindRefused (Malformed BadNumbers Number 0)) (blank 26)
+  -- states that nothing reaches: the lowest, of the unit, though the states 0 and 1 are alike
+  pub find-unreached : Finds (unitOf1 ((1, 0) ∷ (0, 0) ∷ (0, 1) ∷ (0, 2) ∷ [])) 0 (blank 26) (FindRefused (Unreached UnitFile (goldenState 2))) (blank 26)
+  -- the states 1 and 2 are alike, and so are 1 and 3, and 2 and 3: the lowest pair
+  pub find-not-reduced : Finds (unitOf1 ((1, 0) ∷ (2, 1) ∷ (3, 1) ∷ (1, 1) ∷ [])) 0 [] (FindRefused (NotReduced (goldenState 1) (goldenState 2))) []
 
 pub starred : Starred
-unfolding flatMap wordsOf shortlex countBytes outputBytes entryBytes tableBytes wordBytes wordsBytes frontBytes dossierBytes byte judged count many word words output entry table sheetRecord ending dossier unitTable sheet middles needed unreached pairs unseparated missing maximalOf builtTests readFile sound enough check build run telling compare repeated foreign absent pair judge testPart decimal runLine
+unfolding flatMap wordsOf shortlex countBytes outputBytes entryBytes tableBytes wordBytes wordsBytes frontBytes dossierBytes byte judged count many word words output entry table sheetRecord ending dossier unitTable sheet middles needed unreached pairs unseparated missing maximalOf builtTests readFile sound enough check build run telling compare accessWord tellingWord unreachable untold foundCover foundSeparating find repeated foreign absent pair judge testPart decimal runLine
 starred =
     record {
       needed-2 = refl;
@@ -401,4 +445,14 @@ starred =
       last-input = (refl, refl);
       sheet-input = (refl, refl);
       trailing = (refl, refl, refl, refl, refl);
+      find-0 = (refl, refl);
+      find-2 = (refl, refl);
+      find-3 = (refl, refl);
+      find-no-room = (refl, refl);
+      find-4 = (refl, refl);
+      find-one-state = (refl, refl);
+      find-low-bound = (refl, refl);
+      find-high-bound = (refl, refl);
+      find-unreached = (refl, refl);
+      find-not-reduced = (refl, refl);
     }

@@ -1,4 +1,4 @@
-// The kinds of number, refusal and answer of document 01. What each one means stands in specs/.
+// The kinds of number, refusal and answer of documents 01 and 02. What each one means stands in specs/.
 
 ghost use mathlib.Core.Path.{_≡_};
 ghost use Prim.Native.Nat.{_<_};
@@ -88,12 +88,13 @@ pub const MOST_UNIT_BYTES: usize = 65535;
 
 pub const MOST_SHEET_BYTES: usize = 131070;
 
-// The file that a refusal concerns.
+// The file that a refusal concerns, or the number that was passed.
 pub enum File {
     Dossier,
     Unit,
     Sheet,
     Output,
+    Number,
 }
 
 impl File {
@@ -105,6 +106,7 @@ impl File {
             File::Unit => 2,
             File::Sheet => 3,
             File::Output => 4,
+            File::Number => 6,
         }
     }
 }
@@ -144,11 +146,12 @@ pub struct Middle {
     pub e: Input,
 }
 
-// The refusals 1 to 17. Those of 1 to 6 are one case: the fault, the file and the byte place.
+// The refusals 1 to 18. Those of 1 to 6 are one case: the fault, the file and the byte place. UNREACHED concerns the file that is
+// taken as golden: a dossier, or the unit of find.
 pub enum Refusal {
     Malformed(Fault, File, usize),
     NoEmptyWord,
-    Unreached(GoldenState),
+    Unreached(File, GoldenState),
     NoSeparator,
     NotSeparated(GoldenState, GoldenState),
     Missing(usize, Middle, usize),
@@ -158,6 +161,7 @@ pub enum Refusal {
     OtherInputs,
     TooManyStates,
     NoRoom(usize),
+    NotReduced(GoldenState, GoldenState),
 }
 
 pub enum Checked {
@@ -195,5 +199,11 @@ pub enum Judged {
 // The count of tests and the sum of their lengths.
 pub enum Costed {
     Cost(usize, usize),
+    Refused(Refusal),
+}
+
+// The length of what was written.
+pub enum Found {
+    Written(usize),
     Refused(Refusal),
 }

@@ -10,6 +10,7 @@ use borrow.Author.Tests.{lt-ltb, le-ltb}
 use lib.Dec.{ltb}
 use lib.ListN.{length}
 use Rattle.rules.specs.declared.GoldenState.{GoldenState}
+use Rattle.rules.specs.declared.File.the-variants.{Dossier}
 use Rattle.rules.specs.declared.Refusal.{Refusal}
 use Rattle.rules.specs.declared.Refusal.the-variants.{NoEmptyWord, Unreached, NoSeparator, NotSeparated}
 use Rattle.rules.specs.Lists.{first, numbers}
@@ -87,7 +88,7 @@ module _ (s : List ℕ) (x : DossierShape) (lent : Lent s x) where
     empty-is = ap (isIn []) (sym (lent .stands .cover-words)) ∙ sym e ∙ yes-word
 
     module _ (found : StateFound) (found-is : found ≡ stateFound (first (lacks (goldenAt s x) (wordsAt s (x .cover) (x .covers))) (numbers (x .states)))) where
-      pub finds-eight : (q : GoldenState) → found ≡ At q → Refused (Unreached q) ≡ findingOf (soundOf s)
+      pub finds-eight : (q : GoldenState) → found ≡ At q → Refused (Unreached Dossier q) ≡ findingOf (soundOf s)
       unfolding sound
       finds-eight q is =
           let lowest : unreached d ≡ some (q .0) = sym unreached-is ∙ state-at _ found q found-is is in

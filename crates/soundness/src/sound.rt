@@ -3,6 +3,7 @@ use crate::Finding;
 use reader::DossierRead;
 use reader::DossierShape;
 use reader::read_dossier;
+use rules::File;
 use rules::Refusal;
 use soundness_apart::PairFound;
 use soundness_apart::unseparated;
@@ -26,7 +27,7 @@ fn find_unsound(bytes: &[u8], x: DossierShape) -> Finding
     }
     match unreached(bytes, x.table, inputs, x.states, cover, covers) {
         StateFound::At(q) => {
-            return Finding::Refused(Refusal::Unreached(q));
+            return Finding::Refused(Refusal::Unreached(File::Dossier, q));
         }
         StateFound::Nowhere => {}
     }

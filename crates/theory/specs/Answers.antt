@@ -9,11 +9,11 @@ use borrow.Author.Tests.{ne-eqb}
 use lib.Dec.{leb, eqb}
 use lib.ListN.{getD}
 use Rattle.rules.specs.declared.File.{File}
-use Rattle.rules.specs.declared.File.the-variants.{Dossier, Unit as UnitFile, Sheet, Output as OutputFile}
+use Rattle.rules.specs.declared.File.the-variants.{Dossier, Unit as UnitFile, Sheet, Output as OutputFile, Number}
 use Rattle.rules.specs.declared.Fault.{Fault}
 use Rattle.rules.specs.declared.Fault.the-variants.{TooLong, CutShort, BadNumbers, BadTable, BadWord, Trailing}
 use Rattle.rules.specs.declared.Refusal.{Refusal}
-use Rattle.rules.specs.declared.Refusal.the-variants.{Malformed, NoEmptyWord, Unreached, NoSeparator, NotSeparated, Missing, Repeated, Foreign, Absent, OtherInputs, TooManyStates, NoRoom}
+use Rattle.rules.specs.declared.Refusal.the-variants.{Malformed, NoEmptyWord, Unreached, NoSeparator, NotSeparated, Missing, Repeated, Foreign, Absent, OtherInputs, TooManyStates, NoRoom, NotReduced}
 use Rattle.rules.specs.declared.Checked.{Checked}
 use Rattle.rules.specs.declared.Checked.the-variants.{Accepted, Refused as CheckRefused}
 use Rattle.rules.specs.declared.Built.{Built}
@@ -26,9 +26,12 @@ use Rattle.rules.specs.declared.Judged.{Judged}
 use Rattle.rules.specs.declared.Judged.the-variants.{Agrees, Deviates, Refused as JudgeRefused}
 use Rattle.rules.specs.declared.Costed.{Costed}
 use Rattle.rules.specs.declared.Costed.the-variants.{Cost, Refused as CostRefused}
-use Rattle.rules.specs.Answers.{Said, fileNumber, faultNumber, numberOf, goldenState, refusing, checkSays, buildSays, runSays, compareSays, judgeSays, costSays}
+use Rattle.rules.specs.declared.Found.{Found}
+use Rattle.rules.specs.declared.Found.the-variants.{Written as FoundWritten, Refused as FindRefused}
+use Rattle.rules.specs.Answers.{Said, fileNumber, faultNumber, numberOf, goldenState, refusing, checkSays, buildSays, runSays, compareSays, judgeSays, costSays, findSays}
 use Rattle.rules.specs.Operations.{checkAnswer, buildAnswer, buildOutput, runAnswer, compareAnswer, compareOutput, judgeAnswer, partOf, judgedPart, costAnswer}
-use Rattle.rules.specs.Promises.{CheckPromise, BuildPromise, RunPromise, ComparePromise, JudgePromise, JudgeWordPromise, CostPromise, LinePromise}
+use Rattle.rules.specs.Find.{findAnswer, findOutput}
+use Rattle.rules.specs.Promises.{CheckPromise, BuildPromise, RunPromise, ComparePromise, JudgePromise, JudgeWordPromise, CostPromise, FindPromise, LinePromise}
 use Rattle.rules.specs.Line.{runLine}
 
 -- the value at a place
@@ -39,7 +42,7 @@ abbrev pub faultSaid : ℕ → Fault
 faultSaid n = cond (eqb n 1) TooLong (cond (eqb n 2) CutShort (cond (eqb n 3) BadNumbers (cond (eqb n 4) BadTable (cond (eqb n 5) BadWord Trailing))))
 
 abbrev pub fileSaid : ℕ → File
-fileSaid n = cond (eqb n 1) Dossier (cond (eqb n 2) UnitFile (cond (eqb n 3) Sheet OutputFile))
+fileSaid n = cond (eqb n 1) Dossier (cond (eqb n 2) UnitFile (cond (eqb n 3) Sheet (cond (eqb n 4) OutputFile Number)))
 
 -- the refusal that has a number, a file and values
 abbrev pub refusalSaid : Said → Refusal
@@ -48,7 +51,7 @@ refusalSaid s =
     let v = value s in
     cond (leb n 6) (Malformed (faultSaid n) (fileSaid (s .file)) (v 0))
     (cond (eqb n 7) NoEmptyWord
-    (cond (eqb n 8) (Unreached (goldenState (v 0)))
+    (cond (eqb n 8) (Unreached (fileSaid (s .file)) (goldenState (v 0)))
     (cond (eqb n 9) NoSeparator
     (cond (eqb n 10) (NotSeparated (goldenState (v 0)) (goldenState (v 1)))
     (cond (eqb n 11)
@@ -57,7 +60,8 @@ refusalSaid s =
     (cond (eqb n 13) (Foreign (v 0))
     (cond (eqb n 14) (Absent (v 0))
     (cond (eqb n 15) OtherInputs
-    (cond (eqb n 16) TooManyStates (NoRoom (v 0))))))))))))
+    (cond (eqb n 16) TooManyStates
+    (cond (eqb n 17) (NoRoom (v 0)) (NotReduced (goldenState (v 0)) (goldenState (v 1))))))))))))))
 
 fault-said : (fault : Fault) (f : File) (p : ℕ) → fileSaid (fileNumber f) ≡ f → refusalSaid (refusing (Malformed fault f p)) ≡ Malformed fault f p
 fault-said TooLong f p e = rw e
@@ -72,12 +76,13 @@ file-said Dossier = refl
 file-said UnitFile = refl
 file-said Sheet = refl
 file-said OutputFile = refl
+file-said Number = refl
 
 -- Number, file and values determine a refusal.
 pub refusal-said : (r : Refusal) → refusalSaid (refusing r) ≡ r
 refusal-said (Malformed fault f p) = fault-said fault f p (file-said f)
 refusal-said NoEmptyWord = refl
-refusal-said (Unreached q) = refl
+refusal-said (Unreached f q) = rw (file-said f)
 refusal-said NoSeparator = refl
 refusal-said (NotSeparated p q) = refl
 refusal-said (Missing c y s) = refl
@@ -87,6 +92,7 @@ refusal-said (Absent t) = refl
 refusal-said OtherInputs = refl
 refusal-said TooManyStates = refl
 refusal-said (NoRoom n) = refl
+refusal-said (NotReduced p q) = refl
 
 -- no refusal has the number of a verdict
 pub fault-numbers : (fault : Fault) → (0 < faultNumber fault) × (faultNumber fault < 7)
@@ -97,10 +103,10 @@ fault-numbers BadTable = (omega arith, omega arith)
 fault-numbers BadWord = (omega arith, omega arith)
 fault-numbers Trailing = (omega arith, omega arith)
 
-pub refusal-numbers : (r : Refusal) → (0 < numberOf r) × (numberOf r < 18)
+pub refusal-numbers : (r : Refusal) → (0 < numberOf r) × (numberOf r < 19)
 refusal-numbers (Malformed fault f p) = let (a, b) = fault-numbers fault in (a, omega arith)
 refusal-numbers NoEmptyWord = (omega arith, omega arith)
-refusal-numbers (Unreached q) = (omega arith, omega arith)
+refusal-numbers (Unreached f q) = (omega arith, omega arith)
 refusal-numbers NoSeparator = (omega arith, omega arith)
 refusal-numbers (NotSeparated p q) = (omega arith, omega arith)
 refusal-numbers (Missing c y s) = (omega arith, omega arith)
@@ -110,6 +116,7 @@ refusal-numbers (Absent t) = (omega arith, omega arith)
 refusal-numbers OtherInputs = (omega arith, omega arith)
 refusal-numbers TooManyStates = (omega arith, omega arith)
 refusal-numbers (NoRoom n) = (omega arith, omega arith)
+refusal-numbers (NotReduced p q) = (omega arith, omega arith)
 
 -- an answer of three kinds, by its number
 abbrev kind : {A : Type 0} → Said → A → A → (Refusal → A) → A
@@ -138,6 +145,9 @@ judgeSaid s = kind s Agrees (Deviates (value s 0) (value s 1)) JudgeRefused
 abbrev pub costSaid : Said → Costed
 costSaid s = kind s (Cost (value s 0) (value s 1)) (Cost 0 0) CostRefused
 
+abbrev pub findSaid : Said → Found
+findSaid s = kind s (FoundWritten (value s 0)) (FoundWritten 0) FindRefused
+
 pub check-said : (r : Checked) → checkSaid (checkSays r) ≡ r
 check-said Accepted = refl
 check-said (CheckRefused r) = kind-refusing r _ _ CheckRefused
@@ -165,6 +175,10 @@ pub cost-said : (r : Costed) → costSaid (costSays r) ≡ r
 cost-said (Cost n l) = refl
 cost-said (CostRefused r) = kind-refusing r _ _ CostRefused
 
+pub find-said : (r : Found) → findSaid (findSays r) ≡ r
+find-said (FoundWritten n) = refl
+find-said (FindRefused r) = kind-refusing r _ _ FindRefused
+
 -- Number, file and values determine an answer.
 pub determined : {A : Type 0} (says : A → Said) (said : Said → A) → ((a : A) → said (says a) ≡ a) → (a b : A) → says a ≡ says b → a ≡ b
 determined says said back a b e = sym (back a) ∙ ap said e ∙ back b
@@ -190,6 +204,10 @@ judge-answer dossier sheet r = determined judgeSays judgeSaid judge-said r (judg
 pub cost-answer : (dossier : List ℕ) (r : Costed) → CostPromise dossier r → r ≡ costAnswer dossier
 cost-answer dossier r = determined costSays costSaid cost-said r (costAnswer dossier)
 
+pub find-answer : (unit : List ℕ) (bound : ℕ) (out : List ℕ) (r : Found) (left : List ℕ) → FindPromise unit bound out r left
+    → (r ≡ findAnswer unit bound out) × (left ≡ findOutput unit bound out)
+find-answer unit bound out r left (e, l) = (determined findSays findSaid find-said r (findAnswer unit bound out) e, l)
+
 -- The promises, each over the inputs of its operation: what an operation may answer and leave in an output.
 pub record OneAnswer : Type 0 where
   pub check : (dossier : List ℕ) (r s : Checked) → CheckPromise dossier r → CheckPromise dossier s → r ≡ s
@@ -199,6 +217,7 @@ pub record OneAnswer : Type 0 where
   pub judge : (dossier sheet : List ℕ) (r s : Judged) → JudgePromise dossier sheet r → JudgePromise dossier sheet s → r ≡ s
   pub judge-word : (dossier sheet part other : List ℕ) → JudgeWordPromise dossier sheet part → JudgeWordPromise dossier sheet other → part ≡ other
   pub cost : (dossier : List ℕ) (r s : Costed) → CostPromise dossier r → CostPromise dossier s → r ≡ s
+  pub find : (unit : List ℕ) (bound : ℕ) (out : List ℕ) (r s : Found) (left after : List ℕ) → FindPromise unit bound out r left → FindPromise unit bound out s after → (r ≡ s) × (left ≡ after)
   pub line : (golden unit line other : List ℕ) → LinePromise golden unit line → LinePromise golden unit other → line ≡ other
 
 -- Any two results that a promise allows are equal.
@@ -218,6 +237,10 @@ one-answer =
       judge = λ d h r s p q. judge-answer d h r p ∙ sym (judge-answer d h s q);
       judge-word = λ d h p q e f. e ∙ sym f;
       cost = λ d r s p q. cost-answer d r p ∙ sym (cost-answer d s q);
+      find = λ u m o r s l a p q.
+          let (p₀, p₁) = find-answer u m o r l p in
+          let (q₀, q₁) = find-answer u m o s a q in
+          (p₀ ∙ sym q₀, p₁ ∙ sym q₁);
       line = λ g u l m e f. e ∙ sym f;
     }
 
@@ -229,6 +252,7 @@ pub record SomeAnswer : Type 0 where
   pub judge : (dossier sheet : List ℕ) → (r : Judged) × JudgePromise dossier sheet r
   pub judge-word : (dossier sheet : List ℕ) → (part : List ℕ) × JudgeWordPromise dossier sheet part
   pub cost : (dossier : List ℕ) → (r : Costed) × CostPromise dossier r
+  pub find : (unit : List ℕ) (bound : ℕ) (out : List ℕ) → (r : Found) × (left : List ℕ) × FindPromise unit bound out r left
   pub line : (golden unit : List ℕ) → (line : List ℕ) × LinePromise golden unit line
 
 -- Each promise allows some result, for all inputs.
@@ -242,5 +266,6 @@ some-answer =
       judge = λ d h. (judgeAnswer d h, refl);
       judge-word = λ d h. (partOf d (judgedPart d h), refl);
       cost = λ d. (costAnswer d, refl);
+      find = λ u m o. (findAnswer u m o, findOutput u m o, (refl, refl));
       line = λ g u. (runLine g u, refl);
     }

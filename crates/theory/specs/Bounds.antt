@@ -10,10 +10,10 @@ use mathlib.Core.List.{List, [], _∷_, map, flatMap}
 use mathlib.Core.Bool.{not}
 use lib.ListN.{length, getD, getElem?, take, length-append}
 use Rattle.rules.specs.declared.File.{File}
-use Rattle.rules.specs.declared.File.the-variants.{Dossier, Unit as UnitFile, Sheet, Output as OutputFile}
+use Rattle.rules.specs.declared.File.the-variants.{Dossier, Unit as UnitFile, Sheet, Output as OutputFile, Number}
 use Rattle.rules.specs.declared.Fault.{Fault}
 use Rattle.rules.specs.declared.Refusal.{Refusal}
-use Rattle.rules.specs.declared.Refusal.the-variants.{Malformed, NoEmptyWord, Unreached, NoSeparator, NotSeparated, Missing, Repeated, Foreign, Absent, OtherInputs, TooManyStates, NoRoom}
+use Rattle.rules.specs.declared.Refusal.the-variants.{Malformed, NoEmptyWord, Unreached, NoSeparator, NotSeparated, Missing, Repeated, Foreign, Absent, OtherInputs, TooManyStates, NoRoom, NotReduced}
 use Rattle.rules.specs.declared.Checked.{Checked}
 use Rattle.rules.specs.declared.Checked.the-variants.{Accepted, Refused as CheckRefused}
 use Rattle.rules.specs.declared.Built.{Built}
@@ -26,6 +26,8 @@ use Rattle.rules.specs.declared.Judged.{Judged}
 use Rattle.rules.specs.declared.Judged.the-variants.{Agrees, Deviates, Refused as JudgeRefused}
 use Rattle.rules.specs.declared.Costed.{Costed}
 use Rattle.rules.specs.declared.Costed.the-variants.{Cost, Refused as CostRefused}
+use Rattle.rules.specs.declared.Found.{Found}
+use Rattle.rules.specs.declared.Found.the-variants.{Written as FoundWritten, Refused as FindRefused}
 use Rattle.rules.specs.Machines.{Machine, answer, answerFrom}
 use Rattle.rules.specs.Sizes.{mostTestWord, mostInputs, mostDossierBytes, mostUnitBytes, mostSheetBytes}
 use Rattle.rules.specs.Lists.{_∈_, sum}
@@ -33,18 +35,20 @@ use Rattle.rules.specs.Words.{Word, Valid, same}
 use Rattle.rules.specs.Files.{DossierData, UnitData, SheetRecord, golden, unit, wordBytes, countBytes, wordsBytes, frontBytes, dossierBytes, recordBytes, sheetBytes}
 use Rattle.rules.specs.Reading.{Reader, dossier, unitTable, sheet}
 use Rattle.rules.specs.Operations.{Outcome, fine, refuse, readFile, readDossier, readUnit, readSheet, recordedFor, Paired, judge, deviatingOf, answered, noPart, testPart, deviatingPart, judgedPart}
-use Rattle.rules.specs.Answers.{Said, fileNumber, well, differing, refusing, checkSays, buildSays, runSays, compareSays, judgeSays, costSays}
-use Rattle.rules.specs.Promises.{CheckPromise, BuildPromise, RunPromise, ComparePromise, JudgePromise, CostPromise}
+use Rattle.rules.specs.Answers.{Said, fileNumber, well, differing, refusing, checkSays, buildSays, runSays, compareSays, judgeSays, costSays, findSays}
+use Rattle.rules.specs.Promises.{CheckPromise, BuildPromise, RunPromise, ComparePromise, JudgePromise, CostPromise, FindPromise}
 use Rattle.theory.specs.Sized.{SizedDossier, SizedSheet}
 use Rattle.theory.specs.Lists.{at-in, at-below, found-at}
 use Rattle.theory.specs.Outcomes.{read-refuses}
 use Rattle.theory.specs.Files.{Refusals, dossier-refusals, unit-refusals, sheet-refusals, dossier-sized, unit-sized, sheet-sized}
-use Rattle.theory.specs.Answers.{value, fault-numbers, check-answer, build-answer, run-answer, compare-answer, judge-answer, cost-answer}
+use Rattle.theory.specs.Answers.{value, fault-numbers, check-answer, build-answer, run-answer, compare-answer, judge-answer, cost-answer, find-answer}
 use Rattle.theory.specs.Spelling.{length-flatMap}
 use Rattle.theory.specs.Machines.{golden-complete}
 use Rattle.theory.specs.Steps.{FirstStep}
 use Rattle.theory.specs.Build
 use Rattle.theory.specs.Build.{BuildRefuses, build-exactly}
+use Rattle.theory.specs.Find
+use Rattle.theory.specs.Find.{FindRefuses, find-exactly}
 use Rattle.theory.specs.Run
 use Rattle.theory.specs.Run.{RunRefuses, run-exactly, cost-exactly}
 use Rattle.theory.specs.Compare
@@ -98,7 +102,7 @@ unfolding flatMap wordBytes
 words-long [] = refl
 words-long (w ∷ ws) = let ih = words-long ws in rw length-append (omega arith)
 
-section-long : (ws : List Word) → length (wordsBytes ws) ≡ 2 + (length ws + sum (map (λ (w : Word). length w) ws))
+pub section-long : (ws : List Word) → length (wordsBytes ws) ≡ 2 + (length ws + sum (map (λ (w : Word). length w) ws))
 unfolding wordsBytes countBytes
 section-long ws = let l = words-long ws in rw length-append (omega arith)
 
@@ -118,7 +122,7 @@ counts-small d sized =
 abbrev pub SmallRefusal : Refusal → Type 0
 SmallRefusal (Malformed fault f p) = Small p
 SmallRefusal NoEmptyWord = Unit {0}
-SmallRefusal (Unreached q) = Small (q .0)
+SmallRefusal (Unreached f q) = Small (q .0)
 SmallRefusal NoSeparator = Unit {0}
 SmallRefusal (NotSeparated p q) = Small (p .0) × Small (q .0)
 SmallRefusal (Missing c y s) =
@@ -129,6 +133,7 @@ SmallRefusal (Absent i) = Small i
 SmallRefusal OtherInputs = Unit {0}
 SmallRefusal TooManyStates = Unit {0}
 SmallRefusal (NoRoom n) = Small n
+SmallRefusal (NotReduced p q) = Small (p .0) × Small (q .0)
 
 -- an answer whose number is not MISSING's
 plain-fits : (s : Said) → s .number < 32 → s .file < 8 → s .number ≢ 11 → length (s .values) ≤ 2 → Small (value s 0) → Small (value s 1) → Fits s
@@ -140,13 +145,14 @@ file-fits Dossier = omega arith
 file-fits UnitFile = omega arith
 file-fits Sheet = omega arith
 file-fits OutputFile = omega arith
+file-fits Number = omega arith
 
 pub refusal-fits : (r : Refusal) → SmallRefusal r → Fits (refusing r)
 refusal-fits (Malformed fault f p) h =
     let (a, b) = fault-numbers fault in
     plain-fits (refusing (Malformed fault f p)) (omega arith) (file-fits f) (λ e. omega arith) (omega arith) h (omega arith)
 refusal-fits NoEmptyWord h = plain-fits (refusing NoEmptyWord) (omega arith) (omega arith) (λ e. omega arith) (omega arith) (omega arith) (omega arith)
-refusal-fits (Unreached q) h = plain-fits (refusing (Unreached q)) (omega arith) (omega arith) (λ e. omega arith) (omega arith) h (omega arith)
+refusal-fits (Unreached f q) h = plain-fits (refusing (Unreached f q)) (omega arith) (file-fits f) (λ e. omega arith) (omega arith) h (omega arith)
 refusal-fits NoSeparator h = plain-fits (refusing NoSeparator) (omega arith) (omega arith) (λ e. omega arith) (omega arith) (omega arith) (omega arith)
 refusal-fits (NotSeparated p q) (h, h′) = plain-fits (refusing (NotSeparated p q)) (omega arith) (omega arith) (λ e. omega arith) (omega arith) h h′
 refusal-fits (Missing c y s) (hc, hs, long, ha, hb, hc′, hd, he) =
@@ -176,6 +182,7 @@ refusal-fits (Absent i) h = plain-fits (refusing (Absent i)) (omega arith) (omeg
 refusal-fits OtherInputs h = plain-fits (refusing OtherInputs) (omega arith) (omega arith) (λ e. omega arith) (omega arith) (omega arith) (omega arith)
 refusal-fits TooManyStates h = plain-fits (refusing TooManyStates) (omega arith) (omega arith) (λ e. omega arith) (omega arith) (omega arith) (omega arith)
 refusal-fits (NoRoom n) h = plain-fits (refusing (NoRoom n)) (omega arith) (omega arith) (λ e. omega arith) (omega arith) h (omega arith)
+refusal-fits (NotReduced p q) (h, h′) = plain-fits (refusing (NotReduced p q)) (omega arith) (omega arith) (λ e. omega arith) (omega arith) h h′
 
 -- a verdict with at most two values
 pub well-fits : (values : List ℕ) → length values ≤ 2 → Small (getD values 0 0) → Small (getD values 1 0) → Fits (well values)
@@ -383,3 +390,20 @@ cost-fits bytes (Cost n l) p =
     let (covers, separators, tests, inputs) = counts-small d (dossier-sized bytes d reads) in
     well-fits (n ∷ l ∷ []) (omega arith) (omega (arith, tests, is)) (omega (arith, inputs, total))
 cost-fits bytes (CostRefused r) p = refusal-fits r (dossier-small bytes r (cost-exactly bytes (CostRefused r) .0 (sym (cost-answer bytes (CostRefused r) p))))
+
+find-small : (unitFile : List ℕ) (m : ℕ) (out : List ℕ) (r : Refusal) → FindRefuses unitFile m out r → SmallRefusal r
+find-small unitFile m out r (Find.malformed e) = unit-small unitFile r e
+find-small unitFile m out r (Find.three u e bad is) = rw is (omega arith)
+find-small unitFile m out r (Find.eight u e range q low is) = rw is (omega (arith, low .state, unit-sized unitFile u e .machine .few-states))
+find-small unitFile m out r (Find.eighteen u e range all p q low is) =
+    let few = unit-sized unitFile u e .machine .few-states in
+    rw is (omega (arith, low .two, low .state), omega (arith, low .state))
+find-small unitFile m out r (Find.over-size u d x over is) = rw is (omega arith)
+find-small unitFile m out r (Find.no-room u d x small short is) = rw is (omega arith)
+
+pub find-fits : (unitFile : List ℕ) (m : ℕ) (out : List ℕ) (r : Found) (left : List ℕ) → FindPromise unitFile m out r left → Fits (findSays r)
+find-fits unitFile m out (FoundWritten n) left p =
+    let (u, d, f, is) = find-exactly unitFile m out (FoundWritten n) .0 (sym (find-answer unitFile m out (FoundWritten n) left p .0)) in
+    well-fits (n ∷ []) (omega arith) (omega (arith, f .small, is)) (omega arith)
+find-fits unitFile m out (FindRefused r) left p =
+    refusal-fits r (find-small unitFile m out r (find-exactly unitFile m out (FindRefused r) .0 (sym (find-answer unitFile m out (FindRefused r) left p .0))))

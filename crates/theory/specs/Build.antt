@@ -1,8 +1,8 @@
 -- Document 01, "Build": the built tests, when each answer is given, and that what is built is accepted and reads back.
 use Prim.Native.Nat.{ℕ, suc, _≤_, _<_}
 use native.Mathlib.Omega.{arith}
-use mathlib.Core.Path.{_≡_, refl, ap}
-use mathlib.Core.Logic.{_↔_, inl, inr}
+use mathlib.Core.Path.{_≡_, refl, sym, ap, _∙_}
+use mathlib.Core.Logic.{_↔_, _⊎_, inl, inr}
 use mathlib.Core.List.{List, _++_}
 use borrow.Author.Tests.{leb-true, leb-false, le-leb, lt-leb}
 use lib.Dec.{leb}
@@ -22,7 +22,7 @@ use Rattle.theory.specs.Sized.{SizedDossier}
 use Rattle.theory.specs.Lists.{outcome, Rising}
 use Rattle.theory.specs.Words.{valid-append}
 use Rattle.theory.specs.Orders.{ByInputs}
-use Rattle.theory.specs.Outcomes.{settled, Settles}
+use Rattle.theory.specs.Outcomes.{settled, fine-injective, fine-not-refuse, Settles}
 use Rattle.theory.specs.Files.{dossier-sized, dossier-read}
 use Rattle.theory.specs.Sound.{Sound, SoundRefuses, sound-refuses, sound-fine}
 use Rattle.theory.specs.Missing.{needed-words}
@@ -198,3 +198,17 @@ pub built-accepted : (bytes out w : List ℕ) → build bytes out ≡ fine w →
 built-accepted bytes out w e =
     let (d, b, is) = rw e at (build-gives bytes out) in
     check-exactly w Accepted .1 (builtDossier d, (rw is (built-reads-back bytes out d b), built-is-accepted d (b .is-sound)))
+
+-- A dossier of which none of 1 to 10 holds is built, or there is no room: 1 to 10 do not refuse it.
+pub sound-builds : (bytes out : List ℕ) (d : DossierData) → readDossier bytes ≡ fine d → Sound d → (r : Built) → buildAnswer bytes out ≡ r
+    → ((n : ℕ) × (r ≡ Written n)) ⊎ ((n : ℕ) × (r ≡ Refused (NoRoom n)))
+sound-builds bytes out d reads s r e = given r (build-exactly bytes out r .0 e)
+  where
+    given : (r : Built) → BuildGives bytes out r → ((n : ℕ) × (r ≡ Written n)) ⊎ ((n : ℕ) × (r ≡ Refused (NoRoom n)))
+    given (Written n) h = inl (n, refl)
+    given (Refused f) (malformed e) = fine-not-refuse (sym reads ∙ e)
+    given (Refused f) (unsound d′ reads′ x) =
+        let same : d′ ≡ d = fine-injective (sym reads′ ∙ reads) in
+        fine-not-refuse (sym (sound-fine d .1 s) ∙ sound-refuses d f .1 (rw same at x))
+    given (Refused f) (over-size d′ reads′ s′ over is) = inr (_, ap Refused is)
+    given (Refused f) (no-room d′ reads′ s′ small short is) = inr (_, ap Refused is)

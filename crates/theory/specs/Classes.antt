@@ -5,26 +5,27 @@
 use mathlib.Core.Path.{_≡_, refl, sym, _∙_}
 use mathlib.Core.Logic.{_≢_, _⊎_, inl, inr, Dec·not}
 use mathlib.Core.List.{[], _∷_, List-discrete}
-use Prim.Native.Nat.{ℕ, suc, _≤_, _<_}
-use native.Mathlib.Decide.{ℕ-discrete, decLt}
+use Prim.Native.Nat.{ℕ, zero, suc, _+_, _-_, _≤_, _<_}
+use native.Mathlib.Decide.{ℕ-discrete, decLe, decLt}
 use native.Mathlib.Omega.{arith}
 use lib.ListN.{length}
 use Rattle.rules.specs.Words.{Word, Valid, shortlex}
 use Rattle.rules.specs.Machines.{Machine, Complete, answerFrom}
-use Rattle.theory.specs.Count.{count, count-≤, count-some, count-whole, some-below, stall-or-grow, least}
+use Rattle.theory.specs.Count.{tick, count, count-≤, count-some, count-all, count-none, count-both, count-but-one, count-whole, some-below, stall-or-grow, least}
+use Rattle.theory.specs.Totals.{total, total-more}
 use Rattle.theory.specs.Lists.{some-in}
 use Rattle.theory.specs.Shortlex.{in-shortlex}
 
 -- The states `p` and `q` answer every word of at most `i` inputs alike.
-abbrev Alike : ℕ → Machine → ℕ → ℕ → ℕ → Type 0
+abbrev pub Alike : ℕ → Machine → ℕ → ℕ → ℕ → Type 0
 Alike k M i p q = (w : Word) → Valid k w → length w ≤ i → answerFrom M p w ≡ answerFrom M q w
 
 -- A word of at most `i` inputs tells them apart.
-abbrev Apart : ℕ → Machine → ℕ → ℕ → ℕ → Type 0
-Apart k M i p q = (w : Word) × Valid k w × (length w ≤ i) × (answerFrom M p w ≢ answerFrom M q w)
+abbrev pub ToldWithin : ℕ → Machine → ℕ → ℕ → ℕ → Type 0
+ToldWithin k M i p q = (w : Word) × Valid k w × (length w ≤ i) × (answerFrom M p w ≢ answerFrom M q w)
 
 -- One or the other, as there are only so many such words.
-alike-or-apart : (k : ℕ) (M : Machine) (i p q : ℕ) → Alike k M i p q ⊎ Apart k M i p q
+alike-or-apart : (k : ℕ) (M : Machine) (i p q : ℕ) → Alike k M i p q ⊎ ToldWithin k M i p q
 alike-or-apart k M i p q =
     elim (some-in (λ w. Dec·not (same? w)) (shortlex k i)) [
       | yes (w, in-w, differ) ↦ let (v, short) = in-shortlex k i w .0 in-w in inr (w, v, short, differ)
@@ -34,8 +35,16 @@ alike-or-apart k M i p q =
     same? : (w : Word) → Dec (answerFrom M p w ≡ answerFrom M q w)
     same? w = List-discrete ℕ-discrete (answerFrom M p w) (answerFrom M q w)
 
+-- Whether one does.
+pub told? : (k : ℕ) (M : Machine) (i p q : ℕ) → Dec (ToldWithin k M i p q)
+told? k M i p q =
+    elim (alike-or-apart k M i p q) [
+      | inl alike ↦ no (λ (w, v, short, differ). differ (alike w v short))
+      | inr apart ↦ yes apart
+    ]
+
 -- Whether they answer alike.
-alike? : (k : ℕ) (M : Machine) (i p q : ℕ) → Dec (Alike k M i p q)
+pub alike? : (k : ℕ) (M : Machine) (i p q : ℕ) → Dec (Alike k M i p q)
 alike? k M i p q =
     elim (alike-or-apart k M i p q) [
       | inl alike ↦ yes alike
@@ -110,3 +119,46 @@ module _ {k : ℕ} {M : Machine} (complete : Complete k M) where
         | inl s ↦ absurd (differ (stalled-all i stalled w valid p q hp hq s))
         | inr (v, valid-v, short, told) ↦ (v, valid-v, omega arith, told)
       ]
+
+  -- Where every two states are told apart by some word, the words of at most r inputs make more than r classes, or as many as there are
+  -- states.
+  module _ (told : (p q : ℕ) → p < q → q < M .states → (w : Word) × Valid k w × (answerFrom M p w ≢ answerFrom M q w)) where
+    many-classes : (r : ℕ) → r < M .states → r < count (rep? r) (M .states)
+    many-classes zero h = count-some (rep? 0) (M .states) 0 (complete .start) (λ p less. absurd (omega arith))
+    many-classes (suc r) h =
+        let before = many-classes r (omega arith) in
+        elim (decLe (count (rep? (suc r)) (M .states)) (count (rep? r) (M .states))) [
+          | no grows ↦ omega arith
+          | yes stalled ↦ omega (arith, count-all (rep? (suc r)) (M .states) (M .states) (omega arith) (each stalled))
+        ]
+      where
+        each : Stalled r → (q : ℕ) → q < M .states → Rep (suc r) q
+        each stalled q state p less alike =
+            let (w, valid, differ) = told p q less state in
+            differ (stalled-all r stalled w valid p q (omega arith) state (λ v valid-v short. alike v valid-v (omega arith)))
+
+    -- So the pairs of states that no word of at most r inputs tells apart are few: a state that represents no class is alike with its
+    -- representative and at most with those before it that represent none.
+    pub few-alike : (r : ℕ) → r < M .states → total (λ q. count (λ p. alike? k M r p q) q) (M .states) ≤ total suc (M .states - suc r)
+    few-alike r h =
+        let not-reps : count other? (M .states) ≤ M .states - suc r = omega (arith, many-classes r h, count-both (rep? r) other? (λ q rep other. other rep) (M .states)) in
+        omega (arith, pairs (M .states), total-more suc _ _ not-reps)
+      where
+        other? : (q : ℕ) → Dec (¬ Rep r q)
+        other? q = Dec·not (rep? r q)
+
+        pairs : (u : ℕ) → total (λ q. count (λ p. alike? k M r p q) q) u ≤ total suc (count other? u)
+        pairs zero = omega arith
+        pairs (suc u) = step (other? u) (pairs u)
+          where
+            step : (d : Dec (¬ Rep r u)) → total (λ q. count (λ p. alike? k M r p q) q) u ≤ total suc (count other? u)
+                → total (λ q. count (λ p. alike? k M r p q) q) u + count (λ p. alike? k M r p u) u ≤ total suc (tick d (count other? u))
+            step (no is) le =
+                omega (arith, count-none (λ p. alike? k M r p u) u (λ p less alike. is (λ rep. rep p less alike)))
+            step (yes is) le =
+                let (a, low, alike-a, rep-a) = represented r u in
+                omega (
+                  arith,
+                  count-but-one (λ p. alike? k M r p u) other? a
+                      (λ p alike ne rep. ne (one-each r p a rep rep-a (λ w v short. alike w v short ∙ sym (alike-a w v short)))) u,
+                )

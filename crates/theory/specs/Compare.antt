@@ -2,7 +2,6 @@
 -- word that tells them apart, among equals the first by inputs.
 use Prim.Native.Nat.{ℕ, _+_, _-_, _≤_, _<_}
 use native.Mathlib.Omega.{arith}
-use native.Mathlib.Decide.{decLe}
 use mathlib.Core.Path.{_≡_, refl}
 use mathlib.Core.Logic.{_↔_, _≢_, inl, inr}
 use mathlib.Core.List.{List}
@@ -16,14 +15,14 @@ use Rattle.rules.specs.declared.Refusal.the-variants.{OtherInputs, NoRoom}
 use Rattle.rules.specs.declared.Compared.{Compared}
 use Rattle.rules.specs.declared.Compared.the-variants.{Equal as Alike, Differs, Refused}
 use Rattle.rules.specs.Lists.{first}
-use Rattle.rules.specs.Words.{Word, Valid, same, byInputs, shortlex}
+use Rattle.rules.specs.Words.{Word, Valid, same, shortlex}
 use Rattle.rules.specs.Machines.{Machine, Complete, answer}
 use Rattle.rules.specs.Files.{DossierData, UnitData, golden, unit}
 use Rattle.rules.specs.Operations.{Outcome, fine, refuse, _>>_, readDossier, readUnit, telling, fitsIfAny, compare, comparison, compareAnswer}
-use Rattle.theory.specs.Lists.{outcome, first-none, none-first, first-least, least-first}
+use Rattle.theory.specs.Lists.{outcome}
 use Rattle.theory.specs.Words.{same-true, same-refl, same-false, differ-same}
-use Rattle.theory.specs.Orders.{ByLength, byLength-one-way, first-then-says, shorter-first}
-use Rattle.theory.specs.Shortlex.{in-shortlex, shortlex-rising}
+use Rattle.theory.specs.Orders.{ByLength}
+use Rattle.theory.specs.Shortlex.{FirstWord, first-word-short, found-word, word-found, none-found, found-none}
 use Rattle.theory.specs.Machines.{golden-complete}
 use Rattle.theory.specs.Telling.{short-telling, alike-everywhere}
 use Rattle.theory.specs.Files.{dossier-sized, unit-sized}
@@ -39,13 +38,10 @@ pub record FirstTelling (k : ℕ) (G U : Machine) (w : Word) : Type 0 where
   pub tells : answer G w ≢ answer U w
   pub earlier : (v : Word) → Valid k v → ByLength v w → answer G v ≡ answer U v
 
-by-length-short : (v w : Word) → ByLength v w → length v ≤ length w
-by-length-short v w h = elim (first-then-says (length v) (length w) (byInputs v w) .0 h) [ inl less ↦ omega arith | inr (e, more) ↦ omega arith ]
-
 module _ (k : ℕ) (G U : Machine) (complete-G : Complete k G) (complete-U : Complete k U) where
-  -- the words that compare looks at, and its test
-  abbrev looked : List Word
-  looked = shortlex k (G .states + U .states - 1)
+  -- how many inputs the words have that compare looks at, and its test
+  abbrev most : ℕ
+  most = G .states + U .states - 1
 
   abbrev tells : Word → Bool
   tells w = not (same (answer G w) (answer U w))
@@ -56,44 +52,30 @@ module _ (k : ℕ) (G U : Machine) (complete-G : Complete k G) (complete-U : Com
   alike-tells : (w : Word) → answer G w ≡ answer U w → tells w ≡ false
   alike-tells w e = rw (e, same-refl (answer U w))
 
-  pub none-telling : first tells looked ≡ none → Equal k G U
-  none-telling e =
-      alike-everywhere k G U complete-G complete-U
-      (λ v valid short. tells-false v (first-none tells e (in-shortlex k (G .states + U .states - 1) v .1 (valid, short))))
+  first-word : (w : Word) → FirstTelling k G U w → FirstWord k tells w
+  first-word w f =
+      record { valid = f .valid; passes = rw (differ-same (f .tells)); earlier = λ v valid-v before. alike-tells v (f .earlier v valid-v before) }
 
-  pub equal-none : Equal k G U → first tells looked ≡ none
-  equal-none alike =
-      none-first tells looked (λ v m. alike-tells v (alike v (in-shortlex k (G .states + U .states - 1) v .0 m .0)))
+  pub none-telling : first tells (shortlex k most) ≡ none → Equal k G U
+  none-telling e = alike-everywhere k G U complete-G complete-U (λ v valid short. tells-false v (none-found k most tells e v valid short))
 
-  pub some-telling : (w : Word) → first tells looked ≡ some w → FirstTelling k G U w
+  pub equal-none : Equal k G U → first tells (shortlex k most) ≡ none
+  equal-none alike = found-none k most tells (λ v valid short. alike-tells v (alike v valid))
+
+  pub some-telling : (w : Word) → first tells (shortlex k most) ≡ some w → FirstTelling k G U w
   some-telling w e =
-      let least = first-least ByLength byLength-one-way tells looked (shortlex-rising k (G .states + U .states - 1)) e in
-      let (valid, short) = in-shortlex k (G .states + U .states - 1) w .0 (least .found) in
-      record {
-        valid = valid;
-        tells = same-false (not-true _ (least .passes));
-        earlier = λ v valid-v before.
-            let less = by-length-short v w before in
-            tells-false v (least .earlier v (in-shortlex k (G .states + U .states - 1) v .1 (valid-v, omega arith)) before);
-      }
+      let (f, short) = found-word k most tells e in
+      record { valid = f .valid; tells = same-false (not-true _ (f .passes)); earlier = λ v valid-v before. tells-false v (f .earlier v valid-v before) }
 
   -- The first telling word has at most n + u - 1 inputs.
   pub telling-short : (w : Word) → FirstTelling k G U w → length w ≤ G .states + U .states - 1
   telling-short w f =
       let (v, valid-v, short, told) = short-telling k G U complete-G complete-U w (f .valid) (f .tells) in
-      elim (decLe (length w) (length v)) [
-        | yes le ↦ omega arith
-        | no more ↦ absurd (told (f .earlier v valid-v (shorter-first v w (omega arith))))
-      ]
+      let less = first-word-short (first-word w f) v valid-v (rw (differ-same told)) in
+      omega arith
 
-  pub telling-some : (w : Word) → FirstTelling k G U w → first tells looked ≡ some w
-  telling-some w f =
-      least-first ByLength byLength-one-way tells looked (shortlex-rising k (G .states + U .states - 1))
-      (record {
-        found = in-shortlex k (G .states + U .states - 1) w .1 (f .valid, telling-short w f);
-        passes = rw (differ-same (f .tells));
-        earlier = λ v m before. alike-tells v (f .earlier v (in-shortlex k (G .states + U .states - 1) v .0 m .0) before);
-      })
+  pub telling-some : (w : Word) → FirstTelling k G U w → first tells (shortlex k most) ≡ some w
+  telling-some w f = word-found k most tells (first-word w f) (telling-short w f)
 
 -- what compare compares: a dossier and a unit that read well and have the same inputs
 pub record Compares (dossierFile unitFile : List ℕ) (d : DossierData) (u : UnitData) : Type 0 where

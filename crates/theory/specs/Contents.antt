@@ -32,7 +32,7 @@ bound-true n b (least, most, near) =
     let m = boundOf n b in
     rw (le-leb n m least, le-leb m mostStates most, le-leb m (n + mostAddedStates) near)
 
-true-bound : (n b : ℕ) → boundGood n b ≡ true → InRange n b
+pub true-bound : (n b : ℕ) → boundGood n b ≡ true → InRange n b
 true-bound n b is =
     let m = boundOf n b in
     let (both, near) = and-eq-true-iff (leb n m && leb m mostStates) (leb m (n + mostAddedStates)) .0 is in

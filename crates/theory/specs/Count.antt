@@ -70,7 +70,7 @@ module _ {P Q : ℕ → Type 0} (decP : (q : ℕ) → Dec (P q)) (decQ : (q : �
   count-mono (suc u) = tick-mono (decP u) (decQ u) (sub u) (count-mono u)
 
   -- Where the part lacks an element, its count is smaller.
-  count-less : (a : ℕ) → ¬ P a → Q a → (u : ℕ) → a < u → count decP u < count decQ u
+  pub count-less : (a : ℕ) → ¬ P a → Q a → (u : ℕ) → a < u → count decP u < count decQ u
   count-less a lacks has zero h = absurd (omega arith)
   count-less a lacks has (suc u) h = step (decP u) (decQ u) (count-less a lacks has u)
     where
@@ -107,6 +107,61 @@ pigeonhole dec u (suc n) f small has inj =
 -- A number that has the property is counted.
 pub count-some : {P : ℕ → Type 0} (dec : (q : ℕ) → Dec (P q)) (u q : ℕ) → q < u → P q → 0 < count dec u
 count-some dec u q h p = pigeonhole dec u 1 (λ i hi. q) (λ i hi. h) (λ i hi. p) (λ i j hi hj e. omega arith)
+
+-- If the numbers below `n` have it, there are `n` of them at least.
+pub count-all : {P : ℕ → Type 0} (dec : (q : ℕ) → Dec (P q)) (u n : ℕ) → n ≤ u → ((q : ℕ) → q < n → P q) → n ≤ count dec u
+count-all dec u n le has = pigeonhole dec u n (λ i h. i) (λ i h. omega arith) has (λ i j hi hj e. e)
+
+-- If none below `u` has it, there are none.
+pub count-none : {P : ℕ → Type 0} (dec : (q : ℕ) → Dec (P q)) (u : ℕ) → ((q : ℕ) → q < u → ¬ P q) → count dec u ≤ 0
+count-none dec zero none = omega arith
+count-none dec (suc u) none =
+    let below = count-none dec u (λ q h. none q (omega arith)) in
+    elim (dec u) as (λ d. tick d (count dec u) ≤ 0) [ yes p ↦ absurd (none u (omega arith) p) | no np ↦ below ]
+
+-- Those that have one property and those that have another, none both, are at most all.
+pub count-both : {P Q : ℕ → Type 0} (decP : (q : ℕ) → Dec (P q)) (decQ : (q : ℕ) → Dec (Q q)) → ((q : ℕ) → P q → Q q → ⊥) → (u : ℕ) → count decP u + count decQ u ≤ u
+count-both decP decQ apart zero = omega arith
+count-both decP decQ apart (suc u) = step (decP u) (decQ u) (apart u) (count-both decP decQ apart u)
+  where
+    step : {A B : Type 0} (p : Dec A) (q : Dec B) → (A → B → ⊥) → count decP u + count decQ u ≤ u → tick p (count decP u) + tick q (count decQ u) ≤ suc u
+    step (yes p) (yes q) clash le = absurd (clash p q)
+    step (yes p) (no nq) clash le = omega arith
+    step (no np) (yes q) clash le = omega arith
+    step (no np) (no nq) clash le = omega arith
+
+-- Where what has one property and is not `a` has another, at most one more has the first.
+pub count-but-one : {P Q : ℕ → Type 0} (decP : (q : ℕ) → Dec (P q)) (decQ : (q : ℕ) → Dec (Q q)) (a : ℕ) → ((q : ℕ) → P q → q ≢ a → Q q)
+    → (u : ℕ) → count decP u ≤ suc (count decQ u)
+count-but-one decP decQ a sub u =
+    elim (decP a) [
+      | no lacks ↦ omega (arith, count-mono decP decQ (λ q has. sub q has (λ e. lacks (rw e at has))) u)
+      | yes has ↦ one-more u
+    ]
+  where
+    low : (u : ℕ) → u ≤ a → count decP u ≤ count decQ u
+    low zero le = omega arith
+    low (suc u) le = tick-mono (decP u) (decQ u) (λ has. sub u has (λ e. omega arith)) (low u (omega arith))
+
+    one-more : (u : ℕ) → count decP u ≤ suc (count decQ u)
+    one-more zero = omega arith
+    one-more (suc u) =
+        elim (ℕ-discrete u a) [
+          | yes e ↦ last (decP u) (decQ u) (low u (omega arith))
+          | no ne ↦ tick-suc (decP u) (decQ u) (λ has. sub u has ne) (one-more u)
+        ]
+      where
+        last : {A B : Type 0} (p : Dec A) (q : Dec B) → count decP u ≤ count decQ u → tick p (count decP u) ≤ suc (tick q (count decQ u))
+        last (yes p) (yes q) le = omega arith
+        last (yes p) (no nq) le = omega arith
+        last (no np) (yes q) le = omega arith
+        last (no np) (no nq) le = omega arith
+
+        tick-suc : {A B : Type 0} (p : Dec A) (q : Dec B) → (A → B) → count decP u ≤ suc (count decQ u) → tick p (count decP u) ≤ suc (tick q (count decQ u))
+        tick-suc (yes p) (yes q) f le = omega arith
+        tick-suc (yes p) (no nq) f le = absurd (nq (f p))
+        tick-suc (no np) (yes q) f le = omega arith
+        tick-suc (no np) (no nq) f le = omega arith
 
 -- A sequence stalls before the step `d`, or has grown by `d` there.
 pub stall-or-grow : (f : ℕ → ℕ) (d : ℕ) → ((i : ℕ) × (i < d) × (f (suc i) ≤ f i)) ⊎ (f 0 + d ≤ f d)

@@ -5,7 +5,7 @@ use native.Mathlib.Nat.{add-comm}
 use native.Mathlib.Omega.{arith}
 use lib.ListN.{take, drop, replicate}
 use mathlib.Core.Path.{_≡_, refl, sym, _∙_, ap}
-use mathlib.Core.Logic.{_↔_, _≢_}
+use mathlib.Core.Logic.{_↔_, _≢_, _⊎_}
 use mathlib.Core.List.{List, [], _∷_, _++_}
 use mathlib.Core.Bool.{Bool, true, false, cond}
 use borrow.Author.Tests.{ltb-true}
@@ -19,8 +19,10 @@ use Rattle.rules.specs.Words.{Word, Valid, same}
 use Rattle.rules.specs.Machines.{answer}
 use Rattle.rules.specs.Files.{DossierData, SheetRecord, golden, unit, sheetBytes}
 use Rattle.rules.specs.Operations.{fine, readDossier, readSheet, runAnswer, compareAnswer, judgeAnswer, partOf, judgedPart}
-use Rattle.rules.specs.Answers.{checkSays, runSays, compareSays, judgeSays}
-use Rattle.rules.specs.Starred.{built2, built3, unitV, sheet2, sheet2′, sheetV, dataG2, dataG3, dataV, records2, records2′, recordsV, starred}
+use Rattle.rules.specs.declared.Built.the-variants.{Written, Refused}
+use Rattle.rules.specs.declared.Refusal.the-variants.{NoRoom}
+use Rattle.rules.specs.Answers.{checkSays, buildSays, runSays, compareSays, judgeSays, findSays}
+use Rattle.rules.specs.Starred.{built2, built3, unitG, unitV, sheet2, sheet2′, sheetV, dataG2, dataG3, dataV, records2, records2′, recordsV, starred}
 use Rattle.theory.specs.Lists.{At, all-true}
 use Rattle.theory.specs.Words.{same-true}
 use Rattle.theory.specs.Reordering.{Reordered, times-append, SameVerdict, order-does-not-matter, allowed-order-does-not-matter, reordered-does-not-matter}
@@ -34,6 +36,7 @@ use Rattle.theory.specs.Judge.{AllGolden, judge-exactly}
 use Rattle.theory.specs.Compare.{Equal}
 use Rattle.theory.specs.Pairing.{Belongs}
 use Rattle.theory.specs.Outcomes.{fine-injective}
+use Rattle.theory.specs.Writes.{found-builds}
 use Rattle.theory.specs.Demands.{Covered, SheetOf, tests-settle-every-word, allowed-tests-settle-every-word, tests-settle-any-machine, equal-exactly, passes-exactly-when-equal, allowed-passes-exactly-when-equal, agreeing-sheet-settles, allowed-agreeing-sheet-settles, deviating-sheet-tells, equal-machine-agrees}
 
 -- the sheet with the golden's answers
@@ -193,3 +196,9 @@ longSheet = sheet2′ ++ (0 ∷ [])
 
 sheet-example : WrongAt (FormedSheet 2) SheetSeam longSheet 21 × NumberAt (FormedSheet 2) sheetSection longSheet 21 Trailing
 sheet-example = sheet-faults 2 (omega arith) longSheet (bytes-of longSheet refl) (omega arith) .wrong Trailing 21 .0 (tt, starred .trailing .3)
+
+-- What find wrote for G as a unit is never refused by 1 to 10, at the bound 2: build answers 37.
+found-example : ((n : ℕ) × (Written 37 ≡ Written n)) ⊎ ((n : ℕ) × (Written 37 ≡ Refused (NoRoom n)))
+found-example =
+    found-builds unitG 2 (replicate 26 170) _ 26 (ap findSays (sym (starred .find-2 .0)), sym (starred .find-2 .1)) (replicate 37 170) _ (Written 37)
+    (ap buildSays (sym (starred .build-2-fits .0)), sym (starred .build-2-fits .1))

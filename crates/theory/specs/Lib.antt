@@ -2,6 +2,7 @@ pub mod Sized
 pub mod Lists
 pub mod Words
 pub mod Orders
+pub mod Wrote
 pub mod Shortlex
 pub mod Spelling
 pub mod Texts
@@ -11,6 +12,7 @@ pub mod Contents
 pub mod Stopping
 pub mod Files
 pub mod Count
+pub mod Totals
 pub mod Reach
 pub mod Machines
 pub mod Numbering
@@ -19,6 +21,9 @@ pub mod Suites
 pub mod Complete
 pub mod Classes
 pub mod Telling
+pub mod Access
+pub mod Distances
+pub mod Breadth
 pub mod Outcomes
 pub mod Faults
 pub mod Answers
@@ -33,7 +38,9 @@ pub mod Pairing
 pub mod Judge
 pub mod Reordering
 pub mod Build
+pub mod Find
 pub mod Demands
 pub mod Writes
 pub mod Examples
 pub mod Bounds
+pub mod FoundSize

@@ -360,3 +360,58 @@ module _ {A : Type 0} (test : ℕ × A → Bool) (l : List A) where
 
   pub at-none : ((i : ℕ) (x : A) → At l i x → test (i, x) ≡ false) → first test (placed l) ≡ none
   at-none h = none-first test (placed l) (λ (i, x) m. h i x (of-placed l m))
+
+-- Lists with the same at each place are the same,
+pub same-places : {A : Type 0} (l r : List A) → length l ≡ length r → ((i : ℕ) → i < length l → (x : A) × At l i x × At r i x) → l ≡ r
+same-places [] [] e h = refl
+same-places [] (y ∷ r) e h = absurd (omega arith)
+same-places (x ∷ l) [] e h = absurd (omega arith)
+same-places (x ∷ l) (y ∷ r) e h =
+    let (z, here, there) = h 0 (omega arith) in
+    let heads : x ≡ y = some-injective (here ∙ sym there) in
+    let tails : l ≡ r = same-places l r (omega arith) (λ i less. h (suc i) (omega arith)) in
+    cc
+
+-- and so are lists that rise in one order and have the same elements.
+pub same-elements : {A : Type 0} (before : A → A → Type 0) → OneWay before → (l r : List A) → Rising before l → Rising before r
+    → ((x : A) → x ∈ l → x ∈ r) → ((x : A) → x ∈ r → x ∈ l) → l ≡ r
+same-elements before one-way [] [] rl rr to back = refl
+same-elements before one-way [] (y ∷ r) rl rr to back = absurd (List·Memᴰ·not-nil (back y (List·Memᴰ·head refl)))
+same-elements before one-way (x ∷ l) [] rl rr to back = absurd (List·Memᴰ·not-nil (to x (List·Memᴰ·head refl)))
+same-elements {A} before one-way (x ∷ l) (y ∷ r) (ahead, rl) (ahead′, rr) to back =
+    let tails : l ≡ r =
+    same-elements before one-way l r rl rr
+    (λ z m. elim (List·Memᴰ·cases-cons (to z (List·Memᴰ·tail m))) [ inl e ↦ absurd (irreflexive x (rw (e ∙ sym heads) at (ahead z m))) | inr n ↦ n ])
+    (λ z m. elim (List·Memᴰ·cases-cons (back z (List·Memᴰ·tail m))) [ inl e ↦ absurd (irreflexive y (rw (e ∙ heads) at (ahead′ z m))) | inr n ↦ n ])
+    in
+    cc heads
+  where
+    irreflexive : (z : A) → ¬ before z z
+    irreflexive z h = one-way z z h h
+
+    heads : x ≡ y
+    heads =
+        elim (List·Memᴰ·cases-cons (to x (List·Memᴰ·head refl))) [
+          | inl e ↦ e
+          | inr m ↦
+              elim (List·Memᴰ·cases-cons (back y (List·Memᴰ·head refl))) [ inl e ↦ sym e | inr n ↦ absurd (one-way x y (ahead y n) (ahead′ x m)) ]
+        ]
+
+-- What stands at a place of the numbers, and of what is made of each element of a list.
+pub numbers-at : (i n q : ℕ) → q < n → At (numbersFrom i n) q (i + q)
+numbers-at i zero q h = absurd (omega arith)
+numbers-at i (suc n) zero h = rw add-zero
+numbers-at i (suc n) (suc q) h = let e : i + suc q ≡ suc i + q = omega arith in rw e (numbers-at (suc i) n q (omega arith))
+
+pub numbers-length : (i n : ℕ) → length (numbersFrom i n) ≡ n
+numbers-length i zero = refl
+numbers-length i (suc n) = ap suc (numbers-length (suc i) n)
+
+pub map-at : {A B : Type 0} (f : A → B) (l : List A) (i : ℕ) {x : A} → At l i x → At (map f l) i (f x)
+map-at f [] i e = none-not-some e
+map-at f (a ∷ l) zero e = ap (λ y. some (f y)) (some-injective e)
+map-at f (a ∷ l) (suc i) e = map-at f l i e
+
+pub map-length : {A B : Type 0} (f : A → B) (l : List A) → length (map f l) ≡ length l
+map-length f [] = refl
+map-length f (a ∷ l) = ap suc (map-length f l)

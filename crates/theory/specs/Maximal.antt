@@ -3,15 +3,15 @@ use Prim.Native.Nat.{ℕ, zero, suc, _+_, _≤_, _<_}
 use native.Mathlib.Omega.{arith}
 use mathlib.Core.Path.{_≡_, refl, sym, _∙_, ap}
 use mathlib.Core.Logic.{_↔_, _≢_, _⊎_, inl, inr}
-use mathlib.Core.List.{List, [], _∷_, _++_, append-assoc, append-nil, List·Memᴰ·head, List·Memᴰ·tail, List·Memᴰ·not-nil, List·Memᴰ·cases-cons}
-use mathlib.Core.Bool.{Bool, true, not}
+use mathlib.Core.List.{List, [], _∷_, _++_, map, append-assoc, append-nil, List·Memᴰ·head, List·Memᴰ·tail, List·Memᴰ·not-nil, List·Memᴰ·cases-cons}
+use mathlib.Core.Bool.{Bool, true, false, not}
 use borrow.Author.Tests.{not-true, not-false}
 use lib.ListN.{length, length-append}
 use Rattle.rules.specs.Lists.{_∈_, any, keep}
-use Rattle.rules.specs.Words.{Word, same, Begins, begins, beginsProperly, byInputs}
+use Rattle.rules.specs.Words.{Word, same, Begins, begins, beginsProperly, byInputs, isIn}
 use Rattle.rules.specs.Needed.{distinct, maximalOf, insert, ordered}
-use Rattle.theory.specs.Lists.{outcome, clash, any-true, any-false, none-any, in-keep, of-keep, Rising}
-use Rattle.theory.specs.Words.{both, same-true, same-false, differ-same, begins-true, begins-of}
+use Rattle.theory.specs.Lists.{outcome, clash, any-true, any-false, none-any, in-keep, of-keep, Rising, rising-too}
+use Rattle.theory.specs.Words.{both, same-true, same-refl, same-false, differ-same, in-isIn, isIn-in, begins-true, begins-of}
 use Rattle.theory.specs.Orders.{ByInputs, byInputs-transitive, byInputs-total}
 
 -- v is a beginning of w and not w itself
@@ -68,6 +68,54 @@ distinct-apart (w ∷ ws) = (
   λ v m e. same-false (not-true _ (of-keep (λ u. not (same u w)) (distinct ws) m .1)) (sym e),
   keep-rising (λ v w. v ≢ w) (λ u. not (same u w)) (distinct ws) (distinct-apart ws),
 )
+
+-- Each at its first place: of two words of things in order, the one that is kept earlier is the word of a thing that comes before
+-- all that have the other word.
+pub distinct-order : {A : Type 0} (before : A → A → Type 0) (f : A → Word) (l : List A) → Rising before l
+    → Rising (λ v w. (a : A) × (a ∈ l) × (f a ≡ v) × ((b : A) → b ∈ l → f b ≡ w → before a b)) (distinct (map f l))
+distinct-order before f [] r = tt
+distinct-order {A} before f (a ∷ l) (ahead, r) = (
+  λ w m. (
+    a,
+    List·Memᴰ·head refl,
+    refl,
+    λ b n e. elim (List·Memᴰ·cases-cons n) [ inl is ↦ absurd (other w m (sym e ∙ ap f is)) | inr n′ ↦ ahead b n′ ],
+  ),
+  rising-too _ _ (keep (λ v. not (same v (f a))) (distinct (map f l)))
+      (λ v w in-v in-w (b, n, e, later). (
+        b,
+        List·Memᴰ·tail n,
+        e,
+        λ c o is. elim (List·Memᴰ·cases-cons o) [ inl is-a ↦ absurd (other w in-w (sym is ∙ ap f is-a)) | inr o′ ↦ later c o′ is ],
+      ))
+      (keep-rising _ (λ v. not (same v (f a))) (distinct (map f l)) (distinct-order before f l r)),
+)
+  where
+    other : (w : Word) → w ∈ keep (λ v. not (same v (f a))) (distinct (map f l)) → w ≢ f a
+    other w m = same-false (not-true _ (of-keep (λ v. not (same v (f a))) (distinct (map f l)) m .1))
+
+-- One word more is kept behind the others, unless it is there already.
+keep-append : {A : Type 0} (test : A → Bool) (l r : List A) → keep test (l ++ r) ≡ keep test l ++ keep test r
+keep-append test [] r = refl
+keep-append test (x ∷ l) r = elim (outcome (test x)) [ inl e ↦ rw (e, keep-append test l r) | inr e ↦ rw (e, keep-append test l r) ]
+
+pub distinct-new : (w : Word) (ws : List Word) → ¬ (w ∈ ws) → distinct (ws ++ (w ∷ [])) ≡ distinct ws ++ (w ∷ [])
+distinct-new w [] new = refl
+distinct-new w (v ∷ ws) new =
+    let other : same w v ≡ false = differ-same (λ e. new (List·Memᴰ·head e)) in
+    let last : keep (λ x. not (same x v)) (w ∷ []) ≡ w ∷ [] = rw other in
+    rw (distinct-new w ws (λ m. new (List·Memᴰ·tail m)), keep-append (λ x. not (same x v)) (distinct ws) (w ∷ []), last)
+
+pub distinct-known : (w : Word) (ws : List Word) → w ∈ ws → distinct (ws ++ (w ∷ [])) ≡ distinct ws
+distinct-known w [] m = absurd (List·Memᴰ·not-nil m)
+distinct-known w (v ∷ ws) m =
+    elim (outcome (isIn w ws)) [
+      | inl known ↦ rw (distinct-known w ws (isIn-in known))
+      | inr new ↦
+          let is : w ≡ v = elim (List·Memᴰ·cases-cons m) [ inl e ↦ e | inr n ↦ clash (in-isIn n) new ] in
+          let last : keep (λ x. not (same x v)) (w ∷ []) ≡ [] = rw (is, same-refl v) in
+          rw (distinct-new w ws (λ n. clash (in-isIn n) new), keep-append (λ x. not (same x v)) (distinct ws) (w ∷ []), last, append-nil)
+    ]
 
 -- w is in the list, and a proper beginning of nothing in it
 pub record IsMaximal (ws : List Word) (w : Word) : Type 0 where

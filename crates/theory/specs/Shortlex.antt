@@ -1,4 +1,5 @@
--- The words of at most b inputs, by length and then by inputs: which they are, and that they are in that order.
+-- The words of at most b inputs, by length and then by inputs: which they are, that they are in that order, and what a search
+-- among them finds.
 use mathlib.Core.Path.{_≡_, refl, ap}
 use mathlib.Core.Logic.{inl, inr, _↔_}
 use mathlib.Core.List.{[], _∷_, map, List·Memᴰ·head, List·Memᴰ·not-nil, List·Memᴰ·append-cases, List·Memᴰ·eq-of-singleton, Memᴰ·append-left, Memᴰ·append-right, Memᴰ·map, Memᴰ·of-map}
@@ -6,11 +7,13 @@ use Prim.Native.Nat.{ℕ, zero, suc, _≤_, _<_}
 use native.Mathlib.Decide.{decLe}
 use native.Mathlib.Omega.{arith}
 use borrow.Author.Tests.{lt-ltb}
+use mathlib.Core.Bool.{Bool, true, false}
+use mathlib.Core.Option.{none, some}
 use lib.ListN.{length}
-use Rattle.rules.specs.Lists.{_∈_, numbers}
+use Rattle.rules.specs.Lists.{_∈_, numbers, first}
 use Rattle.rules.specs.Words.{Word, Valid, byInputs, wordsOf, shortlex}
-use Rattle.theory.specs.Lists.{Rising, rising-too, append-rising, map-rising, flatMap-rising, numbers-rising, in-flatMap, of-flatMap, in-numbers, of-numbers}
-use Rattle.theory.specs.Orders.{ByInputs, ByLength, first-then-says, shorter-first}
+use Rattle.theory.specs.Lists.{clash, first-none, none-first, first-least, least-first, Rising, rising-too, append-rising, map-rising, flatMap-rising, numbers-rising, in-flatMap, of-flatMap, in-numbers, of-numbers}
+use Rattle.theory.specs.Orders.{ByInputs, ByLength, first-then-says, shorter-first, by-length-short, byLength-one-way}
 
 in-wordsOf : (k : ℕ) (w : Word) → Valid k w → w ∈ wordsOf k (length w)
 unfolding wordsOf
@@ -81,3 +84,46 @@ shortlex-rising k (suc b) =
     let (_, short) = in-shortlex k b v .0 in-v in
     let (_, long) = of-wordsOf k (suc b) in-w in
     shorter-first v w (omega arith))
+
+-- w passes the test, and no word that is shorter, or as long and earlier by inputs, does
+pub record FirstWord (k : ℕ) (test : Word → Bool) (w : Word) : Type 0 where
+  pub valid : Valid k w
+  pub passes : test w ≡ true
+  pub earlier : (v : Word) → Valid k v → ByLength v w → test v ≡ false
+
+-- It has no more inputs than another that passes.
+pub first-word-short : {k : ℕ} {test : Word → Bool} {w : Word} → FirstWord k test w → (v : Word) → Valid k v → test v ≡ true → length w ≤ length v
+first-word-short {w} f v valid passes =
+    elim (decLe (length w) (length v)) [ yes le ↦ le | no more ↦ clash passes (f .earlier v valid (shorter-first v w (omega arith))) ]
+
+module _ (k b : ℕ) (test : Word → Bool) where
+  -- What is found among the words of at most b inputs is the first of all words that passes.
+  pub found-word : {w : Word} → first test (shortlex k b) ≡ some w → FirstWord k test w × (length w ≤ b)
+  found-word {w} e =
+      let least = first-least ByLength byLength-one-way test (shortlex k b) (shortlex-rising k b) e in
+      let (valid, short) = in-shortlex k b w .0 (least .found) in (
+        record {
+          valid = valid;
+          passes = least .passes;
+          earlier = λ v valid-v before.
+              let less = by-length-short v w before in
+              least .earlier v (in-shortlex k b v .1 (valid-v, omega arith)) before;
+        },
+        short,
+      )
+
+  pub word-found : {w : Word} → FirstWord k test w → length w ≤ b → first test (shortlex k b) ≡ some w
+  word-found {w} f short =
+      least-first ByLength byLength-one-way test (shortlex k b) (shortlex-rising k b)
+      (record {
+        found = in-shortlex k b w .1 (f .valid, short);
+        passes = f .passes;
+        earlier = λ v m before. f .earlier v (in-shortlex k b v .0 m .0) before;
+      })
+
+  -- Where nothing is found, none of them passes.
+  pub none-found : first test (shortlex k b) ≡ none → (v : Word) → Valid k v → length v ≤ b → test v ≡ false
+  none-found e v valid short = first-none test e (in-shortlex k b v .1 (valid, short))
+
+  pub found-none : ((v : Word) → Valid k v → length v ≤ b → test v ≡ false) → first test (shortlex k b) ≡ none
+  found-none h = none-first test (shortlex k b) (λ v m. let (valid, short) = in-shortlex k b v .0 m in h v valid short)

@@ -10,6 +10,7 @@ use mathlib.Core.Option.{none, some}
 use borrow.Author.Tests.{eqb-true, eqb-false, eq-eqb, ne-eqb, not-true, not-false, ltb-true, ltb-false, lt-ltb}
 use lib.Dec.{ltb, eqb}
 use lib.ListN.{length}
+use Rattle.rules.specs.declared.File.the-variants.{Dossier}
 use Rattle.rules.specs.declared.Refusal.{Refusal}
 use Rattle.rules.specs.declared.Refusal.the-variants.{NoEmptyWord, Unreached, NoSeparator, NotSeparated}
 use Rattle.rules.specs.Lists.{_∈_, numbers, numbersFrom, any, all, first}
@@ -24,21 +25,21 @@ use Rattle.theory.specs.Outcomes.{Settles}
 use Rattle.theory.specs.Words.{same-true, same-refl, same-false, in-isIn, isIn-in}
 
 -- a pair before another: by the first number, then by the second
-abbrev LowerPair : ℕ × ℕ → ℕ × ℕ → Type 0
+abbrev pub LowerPair : ℕ × ℕ → ℕ × ℕ → Type 0
 LowerPair a b = (a .0 < b .0) ⊎ ((a .0 ≡ b .0) × (a .1 < b .1))
 
-lower-one-way : OneWay LowerPair
+pub lower-one-way : OneWay LowerPair
 lower-one-way a b (inl h) (inl h′) = omega arith
 lower-one-way a b (inl h) (inr (e, h′)) = omega arith
 lower-one-way a b (inr (e, h)) (inl h′) = omega arith
 lower-one-way a b (inr (e, h)) (inr (e′, h′)) = omega arith
 
-in-pairs : (n p q : ℕ) → p < q → q < n → (p, q) ∈ pairs n
+pub in-pairs : (n p q : ℕ) → p < q → q < n → (p, q) ∈ pairs n
 unfolding pairs
 in-pairs n p q less h =
     in-flatMap _ (in-numbers 0 n p (omega arith) (omega arith)) (Memᴰ·map (λ q. (p, q)) (in-numbers (suc p) (n - suc p) q less (omega arith)))
 
-of-pairs : (n : ℕ) {a : ℕ × ℕ} → a ∈ pairs n → (a .0 < a .1) × (a .1 < n)
+pub of-pairs : (n : ℕ) {a : ℕ × ℕ} → a ∈ pairs n → (a .0 < a .1) × (a .1 < n)
 unfolding pairs
 of-pairs n m =
     let (p, in-p, in-q) = of-flatMap _ (numbers n) m in
@@ -46,7 +47,7 @@ of-pairs n m =
     let (low, high) = of-numbers (suc p) (n - suc p) m′ in
     rw (← e) (low, omega arith)
 
-pairs-rising : (n : ℕ) → Rising LowerPair (pairs n)
+pub pairs-rising : (n : ℕ) → Rising LowerPair (pairs n)
 unfolding pairs
 pairs-rising n =
     flatMap-rising _<_ LowerPair _
@@ -111,7 +112,7 @@ module _ (d : DossierData) where
   -- each of 7 to 10 with its sentence, and nothing earlier
   pub data SoundRefuses (r : Refusal) : Type 0 where
     seven : ¬ HasEmptyWord → r ≡ NoEmptyWord → SoundRefuses r
-    eight : HasEmptyWord → (q : ℕ) → LowestUnreached q → r ≡ Unreached (goldenState q) → SoundRefuses r
+    eight : HasEmptyWord → (q : ℕ) → LowestUnreached q → r ≡ Unreached Dossier (goldenState q) → SoundRefuses r
     nine : HasEmptyWord → AllReached → d .separating ≡ [] → r ≡ NoSeparator → SoundRefuses r
     ten : HasEmptyWord → AllReached → HasSeparator → (p q : ℕ) → LowestAlike p q → r ≡ NotSeparated (goldenState p) (goldenState q) → SoundRefuses r
 

@@ -1,21 +1,29 @@
--- Document 01, "No refusal writes to an output": what the promises of build and compare say of the output afterwards.
+-- Document 01, "No refusal writes to an output": what the promises of build, compare and find say of the output afterwards; and that
+-- what find wrote reads back and can be built on.
 use Prim.Native.Nat.{ℕ, _≤_}
 use native.Mathlib.Omega.{arith}
-use mathlib.Core.Path.{_≡_, _∙_}
+use mathlib.Core.Path.{_≡_, sym, ap, _∙_}
 use mathlib.Core.Logic.{_⊎_, inl, inr}
 use mathlib.Core.List.{List}
 use mathlib.Core.Option.{Option, none, some}
 use lib.ListN.{length, take, drop, length-append, length-drop}
 use lib.Seq.{take-append-seam, drop-append-seam}
 use Rattle.rules.specs.declared.Refusal.{Refusal}
+use Rattle.rules.specs.declared.Refusal.the-variants.{NoRoom}
 use Rattle.rules.specs.declared.Built.the-variants.{Written, Refused as BuildRefused}
 use Rattle.rules.specs.declared.Compared.{Compared}
 use Rattle.rules.specs.declared.Compared.the-variants.{Equal as Alike, Differs, Refused as CompareRefused}
-use Rattle.rules.specs.Operations.{fine, refuse, overwritten, build, buildAnswer, compare, compareAnswer, compareOutput}
-use Rattle.rules.specs.Promises.{BuildPromise, ComparePromise}
+use Rattle.rules.specs.declared.Built.{Built}
+use Rattle.rules.specs.declared.Found.the-variants.{Written as FoundWritten, Refused as FindRefused}
+use Rattle.rules.specs.Files.{DossierData, UnitData, dossierBytes}
+use Rattle.rules.specs.Operations.{fine, refuse, readDossier, overwritten, build, buildAnswer, compare, compareAnswer, compareOutput}
+use Rattle.rules.specs.Find.{find, findAnswer}
+use Rattle.rules.specs.Promises.{BuildPromise, ComparePromise, FindPromise}
 use Rattle.theory.specs.Outcomes.{settled}
-use Rattle.theory.specs.Answers.{build-answer, compare-answer}
-use Rattle.theory.specs.Build.{build-gives}
+use Rattle.theory.specs.Answers.{build-answer, compare-answer, find-answer}
+use Rattle.theory.specs.Build.{build-gives, sound-builds}
+use Rattle.theory.specs.Files.{unit-sized}
+use Rattle.theory.specs.Find.{Drafts, find-gives, found-sound, found-reads-back}
 use Rattle.theory.specs.Compare.{compare-gives}
 
 -- the front of an output that w was written to is w; the later bytes stay, and so does the length
@@ -94,3 +102,41 @@ module _ (dossier unit out left : List ℕ) where
           let is : n ≡ length w = cc (rw e at h) in
           let left-is : left ≡ overwritten w out = rw e at l in
           (w, is, e, rw left-is (written-to out w fits))
+
+module _ (unit : List ℕ) (bound : ℕ) (out left : List ℕ) where
+  -- A refused find changes no byte of its output.
+  pub refused-find-keeps : (r : Refusal) → FindPromise unit bound out (FindRefused r) left → left ≡ out
+  refused-find-keeps r promise =
+      let (answer, output) = find-answer unit bound out (FindRefused r) left promise in
+      output ∙ elim (settled (find unit bound out)) [ inl (w, e) ↦ absurd (different w e answer) | inr (s, e) ↦ rw e ]
+    where
+      different : (w : List ℕ) → find unit bound out ≡ fine w → FindRefused r ≡ findAnswer unit bound out → ⊥
+      different w e h = let z : FindRefused r ≡ FoundWritten (length w) = rw e at h in let no : _≡_ {A = ℕ} 0 1 = cc in omega arith
+
+  -- What find answers the length of stands at the front of the output, and later bytes stay. It reads back as the dossier with the
+  -- unit's table, the bound byte as passed, the found words and no tests.
+  pub found-writes : (n : ℕ) → FindPromise unit bound out (FoundWritten n) left
+      → (u : UnitData) × (d : DossierData) × Drafts unit bound u d × (n ≡ length (dossierBytes d)) × WrittenTo out left (dossierBytes d) × (readDossier (take n left) ≡ fine d)
+  found-writes n promise =
+      let (answer, output) = find-answer unit bound out (FoundWritten n) left promise in
+      elim (settled (find unit bound out)) [
+        | inl (w, e) ↦
+            let (u, d, f, is) = rw e at (find-gives unit bound out) in
+            let count : n ≡ length w = cc (rw e at answer) in
+            let long : n ≡ length (dossierBytes d) = count ∙ ap (λ (l : List ℕ). length l) is in
+            let left-is : left ≡ overwritten (dossierBytes d) out = rw (e, is) at output in
+            let wrote = written-to out (dossierBytes d) (f .fits) in
+            (u, d, f .drafts, long, rw left-is wrote, rw (left-is, long, wrote .front) (found-reads-back unit bound out u d f))
+        | inr (r, e) ↦ absurd (different r e answer)
+      ]
+    where
+      different : (r : Refusal) → find unit bound out ≡ refuse r → FoundWritten n ≡ findAnswer unit bound out → ⊥
+      different r e h = let z : FoundWritten n ≡ FindRefused r = rw e at h in let no : _≡_ {A = ℕ} 0 1 = cc in omega arith
+
+  -- Whatever build answers on it, it is not one of 1 to 10: it is built, or there is no room.
+  pub found-builds : (n : ℕ) → FindPromise unit bound out (FoundWritten n) left
+      → (out′ left′ : List ℕ) (r : Built) → BuildPromise (take n left) out′ r left′ → ((x : ℕ) × (r ≡ Written x)) ⊎ ((x : ℕ) × (r ≡ BuildRefused (NoRoom x)))
+  found-builds n promise out′ left′ r builds =
+      let (u, d, x, long, wrote, reads) = found-writes n promise in
+      sound-builds (take n left) out′ d reads (found-sound u (unit-sized unit u (x .reads) .machine) bound d (x .dossier)) r
+      (sym (build-answer (take n left) out′ r left′ builds .0))

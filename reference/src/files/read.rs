@@ -5,8 +5,8 @@ use super::{Dossier, Record, Sheet, Unit};
 use crate::machine::{Input, Machine, Output, State, Step, Word};
 use crate::refusal::{File, Place, Refusal};
 use crate::sizes::{
-    LONGEST_COVER_WORD, LONGEST_TEST, MOST_DOSSIER_BYTES, MOST_EXTRA_STATES, MOST_INPUTS,
-    MOST_SHEET_BYTES, MOST_STATES,
+    is_bound, LONGEST_COVER_WORD, LONGEST_TEST, MOST_DOSSIER_BYTES, MOST_INPUTS, MOST_SHEET_BYTES,
+    MOST_STATES,
 };
 
 /// A dossier from its bytes, or refusal 1 to 6.
@@ -122,12 +122,9 @@ impl<'a> Reader<'a> {
         self.judged_byte(Refusal::BadNumbers, |byte| (1..=most).contains(&byte))
     }
 
-    /// The byte for m: 0, or n <= m <= 64 and m - n <= 4.
+    /// The byte for m.
     fn bound(&mut self, states: u8) -> Result<u8, Refusal> {
-        let highest = MOST_STATES.min(states + MOST_EXTRA_STATES);
-        self.judged_byte(Refusal::BadNumbers, |byte| {
-            byte == 0 || (states..=highest).contains(&byte)
-        })
+        self.judged_byte(Refusal::BadNumbers, |byte| is_bound(byte, states))
     }
 
     /// A table: its count, then the entries by state and by input.

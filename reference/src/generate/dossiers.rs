@@ -3,8 +3,9 @@
 use super::{limits, machines, Dice};
 use crate::build::built_tests;
 use crate::files::Dossier;
+use crate::find::access_words;
 use crate::machine::{GoldenState, Input, Machine, Word};
-use crate::sizes::{LONGEST_TEST, MOST_EXTRA_STATES, MOST_STATES};
+use crate::sizes::{highest_bound, LONGEST_TEST, MOST_EXTRA_STATES, MOST_STATES};
 
 /// The throws of the dice for a dossier that is not at a limit.
 const PLAIN: usize = 38;
@@ -127,7 +128,7 @@ fn most_extra(inputs: u8) -> usize {
 
 /// The shortest cover and separating words of a machine, and no tests.
 pub fn found(golden: Machine<GoldenState>, extra: u8) -> Dossier {
-    let cover = machines::access_words(&golden).into_iter();
+    let cover = access_words(&golden).into_iter();
     let cover = cover.map(|(_, word)| word).collect();
     let mut separating = machines::telling_words(&golden);
     if separating.is_empty() {
@@ -201,7 +202,7 @@ fn lengthen_one_test(dice: &mut Dice, dossier: &mut Dossier) {
 
 /// Raises the bound by one where it can be raised: the tests were built for a lower one.
 fn raise_bound(dossier: &mut Dossier) {
-    let highest = MOST_STATES.min(dossier.golden.states() + MOST_EXTRA_STATES);
+    let highest = highest_bound(dossier.golden.states());
     dossier.bound_byte = highest.min(dossier.bound() + 1);
 }
 

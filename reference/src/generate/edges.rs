@@ -25,6 +25,7 @@ pub fn edges() -> Vec<Case> {
         dossier,
         unit,
         sheet,
+        bound: 0,
         output_length: 0,
     };
     let dossiers = dossiers(&good).into_iter();

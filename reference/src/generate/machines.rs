@@ -2,8 +2,8 @@
 
 use super::Dice;
 use crate::compare::telling_word;
-use crate::machine::{GoldenState, Machine, Output, State, Step, Word};
-use std::collections::VecDeque;
+use crate::find::access_words;
+use crate::machine::{GoldenState, Input, Machine, Output, State, Step, Word};
 
 /// Any machine of this size. Few outputs make states hard to tell apart.
 pub fn random<S: State>(dice: &mut Dice, inputs: u8, states: u8, outputs: usize) -> Machine<S> {
@@ -17,6 +17,20 @@ pub fn random<S: State>(dice: &mut Dice, inputs: u8, states: u8, outputs: usize)
     Machine { inputs, steps }
 }
 
+/// A machine of this size whose states are all reached.
+pub fn connected<S: State>(dice: &mut Dice, inputs: u8, states: u8, outputs: usize) -> Machine<S> {
+    let mut machine = random(dice, inputs, states, outputs);
+    // Entries of states that are reached so far, on which no later state hangs yet.
+    let mut free: Vec<usize> = (0..usize::from(inputs)).collect();
+    for state in (1..states).map(S::numbered) {
+        let entry = free.swap_remove(dice.below(free.len()));
+        machine.steps[entry].next = state;
+        let row = machine.place_of_step(state, Input(0));
+        free.extend(row..row + usize::from(inputs));
+    }
+    machine
+}
+
 /// A ring of states with one output that differs: its words are as long as words get.
 pub fn ring(inputs: u8, states: u8) -> Machine<GoldenState> {
     let step = |state: u8| Step {
@@ -27,23 +41,6 @@ pub fn ring(inputs: u8, states: u8) -> Machine<GoldenState> {
         .flat_map(|state| (0..inputs).map(move |_| step(state)))
         .collect();
     Machine { inputs, steps }
-}
-
-/// Each reached state with the shortest word that reaches it, in the order of these words.
-pub fn access_words(golden: &Machine<GoldenState>) -> Vec<(GoldenState, Word)> {
-    let mut found = vec![(GoldenState(0), Word::new())];
-    let mut waiting = VecDeque::from(found.clone());
-    while let Some((state, word)) = waiting.pop_front() {
-        for input in golden.all_inputs() {
-            let next = golden.step(state, input).next;
-            if found.iter().all(|(known, _)| *known != next) {
-                let longer = [word.as_slice(), &[input]].concat();
-                found.push((next, longer.clone()));
-                waiting.push_back((next, longer));
-            }
-        }
-    }
-    found
 }
 
 /// The shortest telling word of each two states that can be told apart, each word once.

@@ -10,6 +10,7 @@ mod edges;
 mod limits;
 mod machines;
 mod sheets;
+mod tables;
 mod timed;
 mod units;
 mod worst;
@@ -23,14 +24,17 @@ pub use worst::worst;
 use crate::build::built_bytes;
 use crate::compare::compared;
 use crate::files::{write_dossier, write_sheet, write_unit, Dossier};
+use crate::find::found_bytes;
 use crate::sizes::{MOST_DOSSIER_BYTES, MOST_SHEET_BYTES};
 
-/// One file of each sort and the length of an output; what each operation is to be tried on.
+/// One file of each sort, the bound that find is passed with the unit, and the length of an output;
+/// what each operation is to be tried on.
 #[derive(Clone, Debug, PartialEq, Eq)]
 pub struct Case {
     pub dossier: Vec<u8>,
     pub unit: Vec<u8>,
     pub sheet: Vec<u8>,
+    pub bound: u8,
     pub output_length: usize,
 }
 
@@ -74,18 +78,46 @@ pub fn with_thrown_dossier(dice: &mut Dice, case: &Case) -> Case {
     thrown
 }
 
+/// The cases of one bare table of a seed: find with little room; what it finds, with room to build
+/// it; and what is built of it.
+pub fn table_cases(seed: u64, number: u64) -> Vec<Case> {
+    let mut dice = Dice::new(seed, number);
+    let (unit, bound) = tables::table(&mut dice, number);
+    let case = |dossier, output_length| Case {
+        dossier,
+        unit: unit.clone(),
+        sheet: Vec::new(),
+        bound,
+        output_length,
+    };
+    let Ok(found) = found_bytes(&unit, bound) else {
+        return vec![case(Vec::new(), dice.below(40))];
+    };
+    let fitting = found.len();
+    let shorter = dice.below(fitting);
+    let tight = *dice.pick(&[fitting, fitting - 1, fitting - 1, fitting + 1, shorter]);
+    let tight = case(Vec::new(), tight);
+    let Ok(built) = built_bytes(&found) else {
+        return vec![tight, case(found, MOST_DOSSIER_BYTES)];
+    };
+    vec![tight, case(found, built.len()), case(built, 0)]
+}
+
 fn case_of(dice: &mut Dice, draft: Dossier) -> Case {
-    let unit = write_unit(&units::unit_for(dice, &draft));
+    let drafted = units::unit_for(dice, &draft);
+    let unit = write_unit(&drafted);
     let sheet = write_sheet(&sheets::sheet_for(dice, &draft));
     let dossier = write_dossier(&draft);
     let dossier = sometimes_damaged(dice, 6, dossier, MOST_DOSSIER_BYTES);
     let unit = sometimes_damaged(dice, 5, unit, MOST_DOSSIER_BYTES);
     let sheet = sometimes_damaged(dice, 5, sheet, MOST_SHEET_BYTES);
-    let output_length = output_length(dice, &dossier, &unit);
+    let bound = tables::bound_of(dice, drafted.inputs, drafted.states());
+    let output_length = output_length(dice, &dossier, &unit, bound);
     Case {
         dossier,
         unit,
         sheet,
+        bound,
         output_length,
     }
 }
@@ -98,10 +130,11 @@ fn sometimes_damaged(dice: &mut Dice, one_in: usize, bytes: Vec<u8>, most: usize
     }
 }
 
-/// Output lengths that just fit the built dossier or the telling word, that are one byte short of
-/// it, and others.
-fn output_length(dice: &mut Dice, dossier: &[u8], unit: &[u8]) -> usize {
+/// Output lengths that just fit the built dossier, the telling word or the found dossier, that are
+/// one byte short of it, and others.
+fn output_length(dice: &mut Dice, dossier: &[u8], unit: &[u8], bound: u8) -> usize {
     let built = built_bytes(dossier).map_or(0, |bytes| bytes.len());
+    let found = found_bytes(unit, bound).map_or(0, |bytes| bytes.len());
     let telling = match compared(dossier, unit) {
         Ok(Some(word)) => word.len(),
         _ => 0,
@@ -109,6 +142,6 @@ fn output_length(dice: &mut Dice, dossier: &[u8], unit: &[u8]) -> usize {
     let shorter_by_one = usize::from(dice.one_in(2));
     let any = dice.below(300);
     let full = MOST_DOSSIER_BYTES + dice.below(2);
-    let fitting = *dice.pick(&[built, built, telling, telling, any, full]);
+    let fitting = *dice.pick(&[built, built, telling, telling, found, found, any, full]);
     fitting.saturating_sub(shorter_by_one)
 }

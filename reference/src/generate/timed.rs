@@ -1,5 +1,5 @@
-//! Dossiers, units and sheets to time the operations on: built dossiers of several sizes, and the
-//! worst that could be thought of.
+//! Dossiers, units, sheets and bare tables to time the operations on: built dossiers of several
+//! sizes, and the worst that could be thought of.
 
 use super::dossiers::found;
 use super::{machines, sheets, units, worst, Dice};
@@ -7,14 +7,15 @@ use crate::build::built_tests;
 use crate::files::{write_dossier, write_sheet, write_unit, Dossier};
 use crate::sizes::{MOST_EXTRA_STATES, MOST_STATES};
 
-/// A dossier and what it is, a unit that passes all its tests, and a sheet that agrees with all, so
-/// that none is left out.
+/// A dossier and what it is, a unit that passes all its tests, a sheet that agrees with all, so
+/// that none is left out, and the golden as a bare table.
 #[derive(Clone)]
 pub struct Timed {
     pub name: String,
     pub dossier: Vec<u8>,
     pub unit: Vec<u8>,
     pub sheet: Vec<u8>,
+    pub table: Vec<u8>,
 }
 
 impl Timed {
@@ -28,6 +29,7 @@ impl Timed {
             dossier: write_dossier(dossier),
             unit: write_unit(&unit),
             sheet: write_sheet(&sheet),
+            table: write_unit(&dossier.golden.over_states()),
         }
     }
 }

@@ -7,7 +7,7 @@ use crate::sizes::{MOST_INPUTS, MOST_STATES};
 
 /// A unit to be held against this dossier's golden.
 pub fn unit_for(dice: &mut Dice, dossier: &Dossier) -> Unit {
-    let mut unit = copy_of_golden(dossier);
+    let mut unit = dossier.golden.over_states();
     match dice.below(12) {
         0 => return stranger(dice, dossier),
         1 => return with_other_inputs(dice, dossier),
@@ -24,24 +24,13 @@ pub fn unit_for(dice: &mut Dice, dossier: &Dossier) -> Unit {
 
 /// A unit that answers every word as the golden does, with as many states as the bound allows.
 pub fn largest_equal(dice: &mut Dice, dossier: &Dossier) -> Unit {
-    let mut unit = copy_of_golden(dossier);
+    let mut unit = dossier.golden.over_states();
     split(dice, &mut unit, dossier.bound());
     unit
 }
 
-fn copy_of_golden(dossier: &Dossier) -> Unit {
-    let steps = dossier.golden.steps.iter().map(|step| Step {
-        next: UnitState(step.next.0),
-        output: step.output,
-    });
-    Unit {
-        inputs: dossier.golden.inputs,
-        steps: steps.collect(),
-    }
-}
-
 /// Splits states in two until there are so many; the unit still answers every word alike.
-fn split(dice: &mut Dice, unit: &mut Unit, wanted: u8) {
+pub fn split(dice: &mut Dice, unit: &mut Unit, wanted: u8) {
     while unit.states() < wanted.min(MOST_STATES) {
         let old = UnitState(dice.byte_below(unit.states()));
         let new = UnitState(unit.states());
@@ -69,7 +58,7 @@ fn spoil_one_step(dice: &mut Dice, unit: &mut Unit) {
 }
 
 /// Gives all states but 0 other numbers.
-fn renumber(dice: &mut Dice, unit: &mut Unit) {
+pub fn renumber(dice: &mut Dice, unit: &mut Unit) {
     let mut numbers: Vec<u8> = (0..unit.states()).collect();
     dice.shuffle(&mut numbers[1..]);
     let mut steps = unit.steps.clone();

@@ -1,6 +1,6 @@
-//! Dossiers on which an operation has much to do.
+//! Dossiers and tables on which an operation has much to do.
 
-use super::dossiers::with_built_tests;
+use super::dossiers::{found, with_built_tests};
 use super::machines;
 use super::sheets;
 use super::timed::Timed;
@@ -8,7 +8,9 @@ use super::Dice;
 use crate::files::{size_of_words, write_dossier, write_sheet, Dossier};
 use crate::machine::{GoldenState, Input, Machine, Output, Step, Word};
 use crate::needed::middles;
-use crate::sizes::{LONGEST_COVER_WORD, LONGEST_TEST, MOST_DOSSIER_BYTES, MOST_STATES};
+use crate::sizes::{
+    LONGEST_COVER_WORD, LONGEST_TEST, MOST_DOSSIER_BYTES, MOST_INPUTS, MOST_STATES,
+};
 
 /// All of them.
 pub fn worst() -> Vec<Timed> {
@@ -20,7 +22,8 @@ pub fn worst() -> Vec<Timed> {
         timed("tests that share nothing", &large_trie()),
         full_sheet(),
     ];
-    [repeats(), latecomers(), others.to_vec(), too_large()].concat()
+    let all = [repeats(), latecomers(), others.to_vec(), too_large()];
+    [all.concat(), hard_tables()].concat()
 }
 
 fn timed(name: &str, dossier: &Dossier) -> Timed {
@@ -128,23 +131,36 @@ fn zeros(length: usize) -> Word {
     vec![Input(0); length]
 }
 
-/// Input 0 tells nothing of a state. Input 1 counts down from it, and tells it at 0.
-fn countdown() -> Machine<GoldenState> {
-    let steps = (0..MOST_STATES).flat_map(|state| {
-        let stay = Step {
-            next: GoldenState(state),
+/// The last input counts down from a state, and tells it at 0. The others tell nothing: `next` says
+/// where they lead.
+fn countdown(inputs: u8, mut next: impl FnMut(u8) -> u8) -> Machine<GoldenState> {
+    let mut steps = Vec::new();
+    for state in 0..MOST_STATES {
+        steps.extend((1..inputs).map(|_| Step {
+            next: GoldenState(next(state)),
             output: Output(0),
-        };
-        let down = Step {
+        }));
+        steps.push(Step {
             next: GoldenState(state.checked_sub(1).unwrap_or(MOST_STATES - 1)),
             output: Output(u8::from(state == 0)),
-        };
-        [stay, down]
-    });
-    Machine {
-        inputs: 2,
-        steps: steps.collect(),
+        });
     }
+    Machine { inputs, steps }
+}
+
+/// Tables of 64 states and 16 inputs whose telling words have all lengths up to 63: those of one
+/// length tell one state from all higher ones, and begin with the input that is tried last. Where
+/// the other inputs stay in a state, access words are as long.
+fn hard_tables() -> Vec<Timed> {
+    let mut dice = Dice::new(1, 1);
+    let stay = countdown(MOST_INPUTS, |state| state);
+    let rise = countdown(MOST_INPUTS, |state| {
+        dice.between(usize::from(state), usize::from(MOST_STATES - 1)) as u8
+    });
+    vec![
+        timed("hard table, other inputs stay", &found(stay, 0)),
+        timed("hard table, other inputs rise", &found(rise, 0)),
+    ]
 }
 
 /// 64 states. As many separators that tell nothing as there is room for, and behind them one for
@@ -156,7 +172,7 @@ fn late(length: usize) -> Dossier {
     });
     let telling: Vec<Word> = telling.collect();
     let mut dossier = Dossier {
-        golden: countdown(),
+        golden: countdown(2, |state| state),
         bound_byte: MOST_STATES,
         cover: (0..MOST_STATES)
             .map(|ones| vec![Input(1); usize::from(ones)])

@@ -50,6 +50,11 @@ pub fn unit_v_bytes() -> Vec<u8> {
     hex("02 00 02 03 06 00 02 00 01 00 00 01 01 00 02 00 02 00")
 }
 
+/// The file of G as a bare table, byte for byte.
+pub fn table_g_bytes() -> Vec<u8> {
+    hex("02 00 02 02 04 00 00 00 01 00 00 01 01 00")
+}
+
 pub fn in_dossier(byte: usize) -> Place {
     Place {
         file: File::Dossier,

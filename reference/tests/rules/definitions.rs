@@ -1,4 +1,4 @@
-//! The program against document 01's definitions, gone through without any short cut.
+//! The program against the documents' definitions, gone through without any short cut.
 //!
 //! The program skips words that repeat, looks beginnings up in a set and searches pairs of states.
 //! Here every word is made, held against every other, and the first in order is taken. That is
@@ -8,12 +8,13 @@ use crate::common::*;
 use reference::build::built_tests;
 use reference::check::{check, check_cover_and_separators, Accepted};
 use reference::compare::telling_word;
-use reference::files::{read_dossier, read_sheet, read_unit, Dossier, Sheet, Unit};
-use reference::generate::cases;
+use reference::files::{read_dossier, read_sheet, read_unit, write_dossier, Dossier, Sheet, Unit};
+use reference::find::found_bytes;
+use reference::generate::{cases, table_cases};
 use reference::judge::{judge, JudgeAnswer};
-use reference::machine::{GoldenState, Input, UnitState, Word};
+use reference::machine::{GoldenState, Input, Machine, UnitState, Word};
 use reference::needed::middles;
-use reference::refusal::Refusal;
+use reference::refusal::{File, Place, Refusal};
 use reference::run::{run_tests, RunAnswer};
 use std::collections::BTreeSet;
 
@@ -73,7 +74,8 @@ fn checked(dossier: &Dossier) -> Result<Accepted, Refusal> {
             .iter()
             .all(|word| golden.reached(word) != state)
         {
-            return Err(Refusal::Unreached { state });
+            let file = File::Dossier;
+            return Err(Refusal::Unreached { file, state });
         }
     }
     if dossier.separating.is_empty() {
@@ -219,6 +221,75 @@ fn compare_is_its_definition() {
         }) += 1;
     }
     assert!(equal > 300 && differs > 300, "{equal} {differs}");
+}
+
+/// Find as document 02, L1, words it, gone through word by word. Where a word reaches a state, or
+/// tells two apart, one of at most n - 1 inputs does.
+fn found(unit: &Unit, bound: u8) -> Result<Vec<u8>, Refusal> {
+    let golden: Machine<GoldenState> = unit.over_states();
+    let (file, states) = (File::Unit, golden.states());
+    if bound != 0 && (bound < states || bound > 64 || bound - states > 4) {
+        let place = Place {
+            file: File::Number,
+            byte: 0,
+        };
+        return Err(Refusal::BadNumbers(place));
+    }
+    let all = all_words(golden.inputs, states - 1);
+    let first = |good: &dyn Fn(&Word) -> bool| all.iter().find(|word| good(word)).cloned();
+    let mut cover = Vec::new();
+    for state in golden.all_states() {
+        let access = first(&|word| golden.reached(word) == state);
+        cover.push(access.ok_or(Refusal::Unreached { file, state })?);
+    }
+    let mut separating = Vec::new();
+    for first_state in golden.all_states() {
+        for second in golden.all_states().skip(usize::from(first_state.0) + 1) {
+            let telling = first(&|word| {
+                golden.answer_from(first_state, word) != golden.answer_from(second, word)
+            });
+            separating.push(telling.ok_or(Refusal::NotReduced {
+                first: first_state,
+                second,
+            })?);
+        }
+    }
+    if states == 1 {
+        separating.push(Word::new());
+    }
+    let kept = |place: usize| !separating[..place].contains(&separating[place]);
+    let kept = (0..separating.len()).filter(|&place| kept(place));
+    Ok(write_dossier(&Dossier {
+        golden,
+        bound_byte: bound,
+        cover,
+        separating: kept.map(|place| separating[place].clone()).collect(),
+        tests: Vec::new(),
+    }))
+}
+
+/// Catches a find that takes a longer word, or a later one of the same length, another order of
+/// states or pairs, a word twice, and 18 before 8.
+#[test]
+fn find_is_its_definition() {
+    let mut numbers = [0; 19];
+    for number in 0..8_000 {
+        let case = table_cases(106, number).swap_remove(0);
+        let Ok(unit) = read_unit(&case.unit) else {
+            continue;
+        };
+        let longest = u32::from(unit.states() - 1);
+        let words = u32::from(unit.inputs).checked_pow(longest);
+        if longest > 20 || words.is_none_or(|words| words > 5_000) {
+            continue;
+        }
+        let answer = found_bytes(&case.unit, case.bound);
+        assert_eq!(answer, found(&unit, case.bound));
+        numbers[answer.map_or_else(|refusal| usize::from(refusal.number()), |_| 0)] += 1;
+    }
+    for number in [0, 3, 8, 18] {
+        assert!(numbers[number] > 100, "{number}: {numbers:?}");
+    }
 }
 
 /// Catches a run that looks at the first test only, at last outputs only, or at output totals.

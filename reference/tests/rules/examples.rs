@@ -1,7 +1,9 @@
 //! The example folder holds the worked pieces of document 01.
 
 use crate::common::*;
+use reference::build::built_bytes;
 use reference::check::{check, Accepted};
+use reference::find::found_bytes;
 use reference::judge::{judge, JudgeAnswer};
 use reference::line::run_line;
 use std::fs;
@@ -19,6 +21,14 @@ fn golden_is_the_built_m_3_dossier_and_unit_is_v() {
     assert_eq!(check(&example("golden")), Ok(Accepted));
     let line = run_line(&example("golden"), &example("unit"));
     assert_eq!(line, "FAILS 1 2 010 1 0\n");
+}
+
+/// From the bare table to the golden's dossier.
+#[test]
+fn table_is_g_alone() {
+    assert_eq!(example("table"), table_g_bytes());
+    let found = found_bytes(&example("table"), 3).unwrap();
+    assert_eq!(built_bytes(&found), Ok(example("golden")));
 }
 
 /// The answers of G to the six tests, worked out by hand.

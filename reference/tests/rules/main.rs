@@ -1,9 +1,10 @@
-//! What holds the second program to document 01.
+//! What holds the second program to documents 01 and 02.
 
 mod common;
 mod compared;
 mod definitions;
 mod examples;
+mod found;
 mod packing;
 mod program;
 mod properties;

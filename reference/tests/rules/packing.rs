@@ -5,8 +5,9 @@ use reference::build::build;
 use reference::check::check;
 use reference::compare::{compare, CompareAnswer};
 use reference::cost::cost;
-use reference::files::{write_dossier, write_sheet, Dossier};
-use reference::generate::{cases, Case};
+use reference::files::{write_dossier, write_sheet, write_unit, Dossier};
+use reference::find::find;
+use reference::generate::{cases, table_cases, Case};
 use reference::judge::{judge, JudgeAnswer};
 use reference::machine::{Input, Word};
 use reference::needed::go_through_needed;
@@ -64,6 +65,19 @@ fn worked_values_of_the_judge() {
     assert_eq!(pack::judge_word(&[], &[]), 0);
 }
 
+#[test]
+fn worked_values_of_find() {
+    let with = |table: &[u8], bound, room| pack::find(table, bound, &mut vec![0; room]);
+    assert_eq!(with(&table_g_bytes(), 0, 26), 26 << 8);
+    assert_eq!(with(&table_g_bytes(), 0, 25), 17 | 4 << 5 | 26 << 8);
+    assert_eq!(with(&table_g_bytes(), 1, 26), 3 | 6 << 5);
+    assert_eq!(with(&[2, 0, 17], 0, 26), 3 | 2 << 5 | 2 << 8);
+    let unreached = write_unit(&machine(1, &[(1, 0), (0, 0), (0, 1), (0, 2)]));
+    assert_eq!(with(&unreached, 0, 40), 8 | 2 << 5 | 2 << 8);
+    let alike = write_unit(&machine(1, &[(1, 0), (2, 1), (3, 1), (1, 1)]));
+    assert_eq!(with(&alike, 0, 40), 18 | 2 << 5 | 1 << 8 | 2 << 32);
+}
+
 /// MISSING with three values that differ: cover 1, middle 3a and separator 1 of sixteen inputs.
 #[test]
 fn missing_has_its_own_layout() {
@@ -114,8 +128,14 @@ fn unpacked(packed: u64) -> Unpacked {
         };
         return answer(first, second);
     }
-    let files = [File::Dossier, File::Unit, File::Sheet, File::Output];
-    let file = files[bits(packed, 5, 7) as usize - 1];
+    let file = match bits(packed, 5, 7) {
+        1 => File::Dossier,
+        2 => File::Unit,
+        3 => File::Sheet,
+        4 => File::Output,
+        6 => File::Number,
+        other => panic!("{other} is no file"),
+    };
     let refusal = unpacked_refusal(code, file, first as usize, second as u8);
     assert_eq!(refusal.file(), file);
     Unpacked::Refused(refusal)
@@ -143,6 +163,7 @@ fn unpacked_refusal(code: u8, file: File, first: usize, second: u8) -> Refusal {
         6 => Refusal::Trailing(place),
         7 => Refusal::NoEmptyWord,
         8 => Refusal::Unreached {
+            file,
             state: GoldenState(first as u8),
         },
         9 => Refusal::NoSeparator,
@@ -156,6 +177,10 @@ fn unpacked_refusal(code: u8, file: File, first: usize, second: u8) -> Refusal {
         15 => Refusal::OtherInputs,
         16 => Refusal::TooManyStates,
         17 => Refusal::NoRoom { needed: first },
+        18 => Refusal::NotReduced {
+            first: GoldenState(first as u8),
+            second: GoldenState(second),
+        },
         other => panic!("{other} is no code"),
     }
 }
@@ -197,6 +222,11 @@ fn assert_packed(case: &Case) {
     );
     let costs = shaped(cost(dossier), |cost| (true, cost.tests, cost.inputs));
     assert_eq!(unpacked(pack::cost(dossier)), costs);
+    let found = shaped(find(unit, case.bound, &mut output()), |found| {
+        (true, found.length, 0)
+    });
+    let packed = pack::find(unit, case.bound, &mut output());
+    assert_eq!(unpacked(packed), found);
     assert_judge_packed(dossier, &case.sheet);
 }
 
@@ -218,7 +248,8 @@ fn assert_judge_packed(dossier: &[u8], sheet: &[u8]) {
 /// Catches fields that overlap, are cut off or stand for another answer.
 #[test]
 fn every_answer_unpacks_to_itself() {
-    for case in cases(201, 1_500) {
+    let tables = (0..600).flat_map(|number| table_cases(202, number));
+    for case in cases(201, 1_500).chain(tables) {
         assert_packed(&case);
     }
 }

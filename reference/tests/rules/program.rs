@@ -1,7 +1,7 @@
 //! The program over files: its lines, its exit status, and what it writes.
 
 use crate::common::*;
-use reference::files::{write_dossier, write_sheet};
+use reference::files::{write_dossier, write_sheet, write_unit};
 use std::fs;
 use std::path::{Path, PathBuf};
 use std::process::{Command, Output};
@@ -136,6 +136,28 @@ fn build_writes_the_file_or_leaves_it() {
 }
 
 #[test]
+fn find_writes_the_file_or_leaves_it() {
+    let folder = folder("find");
+    fs::write(folder.join("table"), table_g_bytes()).unwrap();
+    fs::write(folder.join("out"), vec![0xee; 100]).unwrap();
+    let refused = "REFUSED 3 BAD NUMBERS, number, byte 0\n";
+    assert_eq!(line(&folder, &["find", "table", "1", "out"]), refused);
+    let alike = write_unit(&machine(1, &[(1, 0), (2, 1), (3, 1), (1, 1)]));
+    fs::write(folder.join("alike"), alike).unwrap();
+    let refused = "REFUSED 18 NOT REDUCED, unit, states 1 and 2\n";
+    assert_eq!(line(&folder, &["find", "alike", "0", "out"]), refused);
+    let unreached = write_unit(&machine(1, &[(0, 0), (1, 0)]));
+    fs::write(folder.join("unreached"), unreached).unwrap();
+    let refused = "REFUSED 8 UNREACHED, unit, state 1\n";
+    assert_eq!(line(&folder, &["find", "unreached", "0", "out"]), refused);
+    assert_eq!(fs::read(folder.join("out")).unwrap(), vec![0xee; 100]);
+    let found = "FOUND length 26\n";
+    assert_eq!(line(&folder, &["find", "table", "3", "out"]), found);
+    let right = write_dossier(&dossier_g(3, &[]));
+    assert_eq!(fs::read(folder.join("out")).unwrap(), right);
+}
+
+#[test]
 fn a_file_that_cannot_be_written_is_told() {
     let folder = folder("unwritten");
     fs::write(folder.join("old"), dossier_37()).unwrap();
@@ -146,12 +168,16 @@ fn a_file_that_cannot_be_written_is_told() {
 #[test]
 fn wrong_usage_is_told_and_has_status_2() {
     let folder = folder("usage");
-    let wrong: [&[&str]; 5] = [
+    let wrong: [&[&str]; 9] = [
         &[],
         &["run"],
         &["walk", "."],
         &["check", "a", "b"],
         &["build", "a"],
+        &["find", "a", "0"],
+        &["find", "a", "256", "b"],
+        &["find", "a", "+1", "b"],
+        &["find", "a", "", "b"],
     ];
     for arguments in wrong {
         let told = told(&call(&folder, arguments), 2);

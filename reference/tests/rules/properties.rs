@@ -9,7 +9,8 @@ use reference::cost::{cost, Cost};
 use reference::files::{
     read_dossier, read_sheet, read_unit, write_dossier, write_sheet, write_unit, Dossier,
 };
-use reference::generate::{cases, edges, Case, Dice};
+use reference::find::{find, found_bytes};
+use reference::generate::{cases, edges, table_cases, Case, Dice};
 use reference::judge::{judge, JudgeAnswer};
 use reference::line::run_line;
 use reference::machine::Word;
@@ -25,6 +26,8 @@ fn the_same_seed_gives_the_same_cases() {
     let other: Vec<Case> = cases(302, 200).collect();
     assert!(once == again);
     assert!(once != other);
+    assert!(table_cases(301, 1_500) == table_cases(301, 1_500));
+    assert!(table_cases(301, 1_500) != table_cases(302, 1_500));
 }
 
 /// Catches edges that stand on one side of their limits only: each is CUT SHORT at its end, or has
@@ -252,47 +255,59 @@ fn answer_all(dossier: &[u8], unit: &[u8], sheet: &[u8]) {
         compare(dossier, unit, &mut output).err(),
         judge(dossier, sheet).err(),
         cost(dossier).err(),
+        find(unit, 0, &mut output).err(),
     ];
     for refusal in refusals.into_iter().flatten() {
-        assert!((1..=17).contains(&refusal.number()));
+        assert!((1..=18).contains(&refusal.number()));
         assert!(refusal.to_string().starts_with("REFUSED "));
     }
     assert!(run_line(dossier, unit).ends_with('\n'));
 }
 
-/// Catches a builder or a comparison that writes before it refuses, writes past its answer, or
-/// gives NO ROOM wrongly.
+/// Catches a builder, a comparison or a find that writes before it refuses, writes past its answer,
+/// or gives NO ROOM wrongly.
 #[test]
 fn only_the_answer_is_written() {
-    let (mut wrote, mut refused) = (0, 0);
+    let mut wrote = [0; 2];
     for case in cases(309, 3_000) {
-        let untouched = vec![0xee; case.output_length];
-        let mut output = untouched.clone();
-        let (answer, whole) = (
-            build(&case.dossier, &mut output),
-            built_bytes(&case.dossier),
-        );
-        match (&answer, whole) {
-            (Ok(answer), Ok(whole)) => {
-                assert_eq!(answer.length, whole.len());
-                assert_eq!(output[..answer.length], whole);
-                assert_eq!(output[answer.length..], untouched[answer.length..]);
-                wrote += 1;
-            }
-            (Err(Refusal::NoRoom { needed }), Ok(whole)) => {
-                assert_eq!(*needed, whole.len());
-                assert!(case.output_length < whole.len());
-            }
-            (Err(one), Err(other)) => assert_eq!(*one, other),
-            other => panic!("{other:?}"),
-        }
-        if answer.is_err() {
-            assert_eq!(output, untouched);
-            refused += 1;
-        }
+        let mut output = vec![0xee; case.output_length];
+        let built = build(&case.dossier, &mut output).map(|built| built.length);
+        let whole = built_bytes(&case.dossier);
+        wrote[0] += usize::from(writes_the_whole_alone(built, whole, &output));
+        let mut output = vec![0xee; case.output_length];
+        let found = find(&case.unit, case.bound, &mut output).map(|found| found.length);
+        let whole = found_bytes(&case.unit, case.bound);
+        wrote[1] += usize::from(writes_the_whole_alone(found, whole, &output));
         assert_compare_writes_its_word_alone(&case);
     }
-    assert!(wrote > 300 && refused > 300, "{wrote} {refused}");
+    assert!(
+        wrote.iter().all(|&times| 300 < times && times < 2_700),
+        "{wrote:?}"
+    );
+}
+
+/// Whether an operation that answers a length wrote what it is to write; otherwise it wrote nothing.
+fn writes_the_whole_alone(
+    answer: Result<usize, Refusal>,
+    whole: Result<Vec<u8>, Refusal>,
+    output: &[u8],
+) -> bool {
+    let untouched = |bytes: &[u8]| bytes.iter().all(|&byte| byte == 0xee);
+    match (&answer, whole) {
+        (Ok(length), Ok(whole)) => {
+            assert_eq!(*length, whole.len());
+            assert_eq!(output[..*length], whole);
+            assert!(untouched(&output[*length..]));
+        }
+        (Err(Refusal::NoRoom { needed }), Ok(whole)) => {
+            assert_eq!(*needed, whole.len());
+            assert!(output.len() < whole.len());
+        }
+        (Err(one), Err(other)) => assert_eq!(*one, other),
+        other => panic!("{other:?}"),
+    }
+    assert!(answer.is_ok() || untouched(output));
+    answer.is_ok()
 }
 
 fn assert_compare_writes_its_word_alone(case: &Case) {
@@ -418,6 +433,7 @@ fn answers(case: &Case) -> Vec<String> {
         dossier,
         unit,
         sheet,
+        bound,
         output_length,
     } = case;
     let mut output = vec![0; *output_length];
@@ -444,10 +460,11 @@ fn answers(case: &Case) -> Vec<String> {
         named("compare", told),
         named("judge", judged),
         named("cost", cost(dossier).map(|_| "COST")),
+        named("find", find(unit, *bound, &mut output).map(|_| "FOUND")),
     ]
 }
 
-/// Everything that document 01 lets the operations answer.
+/// Everything that the documents let the operations answer.
 fn possible_answers() -> BTreeSet<String> {
     let mut names = BTreeSet::new();
     let mut add = |operation: &str, verdicts: &[&str], numbers: &[u8], file: &str| {
@@ -470,12 +487,15 @@ fn possible_answers() -> BTreeSet<String> {
     add("judge", &["AGREES", "DEVIATES"], &eleven, "dossier");
     add("judge", &[], &[1, 2, 5, 6, 12, 13, 14], "sheet");
     add("cost", &["COST"], &eleven[..6], "dossier");
+    add("find", &["FOUND"], &[1, 2, 3, 4, 6, 8, 18], "unit");
+    add("find", &[], &[3], "number");
+    add("find", &[], &[17], "output");
     names
 }
 
 /// Catches a generator that never comes near a refusal, a verdict or a limit of document 01,
 /// section "Sizes", and with it all properties that would hold because they were never tried; and
-/// any answer that document 01 does not know.
+/// any answer that the documents do not know.
 #[test]
 fn the_generator_meets_every_answer_and_limit() {
     let mut answered: BTreeMap<String, usize> = BTreeMap::new();

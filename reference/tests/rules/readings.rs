@@ -429,7 +429,8 @@ fn refusals_come_as_numbered() {
     assert_eq!(refusal(&dossier), Refusal::NoEmptyWord);
     dossier.cover = words(&["0", ""]);
     let state = GoldenState(1);
-    assert_eq!(refusal(&dossier), Refusal::Unreached { state });
+    let file = File::Dossier;
+    assert_eq!(refusal(&dossier), Refusal::Unreached { file, state });
     dossier.cover = words(&["", "1"]);
     assert_eq!(refusal(&dossier), Refusal::NoSeparator);
     dossier.separating = words(&["1", ""]);

@@ -32,7 +32,15 @@ fn each_kind_of_answer_has_its_rows() {
         assert!(times(&format!("  pub {operation}-"), "(says 0 0 ") >= 2);
         assert!(times(&format!("  pub {operation}-"), "(says 6 1 ") >= 2);
     }
-    for (operation, answer) in [("run", "16 2"), ("build", "17 4"), ("judge", "14 3")] {
+    let others = [
+        ("run", "16 2"),
+        ("build", "17 4"),
+        ("judge", "14 3"),
+        ("find", "0 0"),
+        ("find", "3 6"),
+        ("find", "18 2"),
+    ];
+    for (operation, answer) in others {
         assert!(times(&format!("  pub {operation}-"), &format!("(says {answer} ")) >= 2);
     }
 }

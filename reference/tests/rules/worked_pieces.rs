@@ -10,7 +10,7 @@ use reference::judge::{judge, JudgeAnswer};
 use reference::line::run_line;
 use reference::machine::{GoldenState, Input, Word};
 use reference::needed::go_through_needed;
-use reference::refusal::Refusal;
+use reference::refusal::{File, Refusal};
 use reference::run::{run, RunAnswer};
 use std::collections::BTreeSet;
 use std::ops::ControlFlow;
@@ -118,7 +118,8 @@ fn cover_with_only_the_empty_word_is_8() {
     let mut dossier = dossier_g(2, &["00", "100", "110"]);
     dossier.cover = words(&[""]);
     let state = GoldenState(1);
-    assert_eq!(checked(&dossier), Err(Refusal::Unreached { state }));
+    let file = File::Dossier;
+    assert_eq!(checked(&dossier), Err(Refusal::Unreached { file, state }));
 }
 
 #[test]

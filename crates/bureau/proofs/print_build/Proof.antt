@@ -1,6 +1,4 @@
 use Rattle.bureau_lines.proofs.Told.{built-inside}
-use lib.Seq.{length-take-le}
-use mathlib.Core.Path.{sym}
 use borrow.Author.Needs.{needs}
 use Rattle.bureau.proofs.print_build.Statement.{statement}
 use Rattle.bureau.proofs.print_build.Tie as tie
@@ -29,29 +27,14 @@ slice-aggregate-build-line-2 c = search needs
 build-line-requires : tie.Need-build-line-requires
 build-line-requires c κs = search needs
 
-array-share-prefix-out : tie.Need-array-share-prefix-out
-array-share-prefix-out c = built-inside (c .before .before .build-line .ensures)
+slice-aggregate-print-written : tie.Need-slice-aggregate-print-written
+slice-aggregate-print-written c = search needs
 
-slice-aggregate-save : tie.Need-slice-aggregate-save
-slice-aggregate-save c = sym (length-take-le _ _ (built-inside (c .before .before .before .build-line .ensures)))
-
-save-requires : tie.Need-save-requires
-save-requires c κs = search needs
-
-slice-aggregate-write-all : tie.Need-slice-aggregate-write-all
-slice-aggregate-write-all c = search needs
-
-write-all-requires : tie.Need-write-all-requires
-write-all-requires c κs = search needs
+print-written-requires : tie.Need-print-written-requires
+print-written-requires c κs = (built-inside (c .before .before .build-line .ensures), search needs)
 
 returns : tie.Need-returns
 returns c = search needs
-
-print-requires : tie.Need-print-requires
-print-requires c κs = search needs
-
-returns-2 : tie.Need-returns-2
-returns-2 c = search needs
 
 pub print-build-spec : {M : Type 1} → statement M
 print-build-spec =
@@ -65,11 +48,6 @@ print-build-spec =
     slice-aggregate-build-line
     slice-aggregate-build-line-2
     build-line-requires
-    array-share-prefix-out
-    slice-aggregate-save
-    save-requires
-    slice-aggregate-write-all
-    write-all-requires
-    returns
-    print-requires
-    returns-2)
+    slice-aggregate-print-written
+    print-written-requires
+    returns)

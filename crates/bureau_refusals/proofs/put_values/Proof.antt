@@ -94,6 +94,24 @@ enum-known-r-8 c = search needs
 put-last-requires-5 : tie.Need-put-last-requires-5
 put-last-requires-5 c κs = search needs
 
+enum-known-r-9 : tie.Need-enum-known-r-9
+enum-known-r-9 c = search needs
+
+number-requires-4 : tie.Need-number-requires-4
+number-requires-4 c κs = search needs
+
+cast-put-two-3 : tie.Need-cast-put-two-3
+cast-put-two-3 c = search needs
+
+number-requires-5 : tie.Need-number-requires-5
+number-requires-5 c κs = search needs
+
+cast-put-two-4 : tie.Need-cast-put-two-4
+cast-put-two-4 c = search needs
+
+put-two-requires-2 : tie.Need-put-two-requires-2
+put-two-requires-2 c κs = search needs
+
 same-length : tie.Need-same-length
 same-length c = search needs
 
@@ -166,6 +184,12 @@ same-length-12 c = search needs
 returns-12 : tie.Need-returns-12
 returns-12 c = rw (c .before .before .before .before .before .r8 .given .1) (c .before .before .put-last5 .ensures)
 
+same-length-13 : tie.Need-same-length-13
+same-length-13 c = search needs
+
+returns-13 : tie.Need-returns-13
+returns-13 c = rw (c .before .before .before .before .before .before .before .r9 .given .1, ← (c .before .before .before .before .before .number4 .ensures), ← (c .before .before .before .before .number5 .ensures)) (c .before .before .put-two2 .ensures)
+
 pub put-values-spec : {M : Type 1} → statement M
 put-values-spec =
     tie.close
@@ -200,6 +224,12 @@ put-values-spec =
     put-line-feed-requires-4
     enum-known-r-8
     put-last-requires-5
+    enum-known-r-9
+    number-requires-4
+    cast-put-two-3
+    number-requires-5
+    cast-put-two-4
+    put-two-requires-2
     same-length
     returns
     same-length-2
@@ -223,4 +253,6 @@ put-values-spec =
     same-length-11
     returns-11
     same-length-12
-    returns-12)
+    returns-12
+    same-length-13
+    returns-13)

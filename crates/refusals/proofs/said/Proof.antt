@@ -105,6 +105,24 @@ enum-known-r-8 c = search needs
 says-requires-12 : tie.Need-says-requires-12
 says-requires-12 c κs = search needs
 
+enum-known-r-9 : tie.Need-enum-known-r-9
+enum-known-r-9 c = search needs
+
+number-requires-5 : tie.Need-number-requires-5
+number-requires-5 c κs = search needs
+
+cast-says-5 : tie.Need-cast-says-5
+cast-says-5 c = search needs
+
+number-requires-6 : tie.Need-number-requires-6
+number-requires-6 c κs = search needs
+
+cast-says-6 : tie.Need-cast-says-6
+cast-says-6 c = search needs
+
+says-requires-13 : tie.Need-says-requires-13
+says-requires-13 c κs = search needs
+
 returns : tie.Need-returns
 returns c = rw (c .before .before .before .r .given .1) (let e = c .says .ensures in (e .0 ∙ c .before .number .ensures .0, omega (arith, e .0, c .before .number .ensures .1), e .1, e .2, e .3))
 
@@ -140,6 +158,9 @@ returns-11 c = rw (c .before .enum-told4 .given .1) (let e = c .says11 .ensures 
 
 returns-12 : tie.Need-returns-12
 returns-12 c = rw (c .before .before .r8 .given .1) (let e = c .says12 .ensures in (e .0, omega (arith, e .0), e .1, e .2, e .3))
+
+returns-13 : tie.Need-returns-13
+returns-13 c = rw (c .before .before .before .before .r9 .given .1) (let e = c .says13 .ensures in (e .0, omega (arith, e .0), e .1, e .2 ∙ c .before .before .number5 .ensures, e .3 ∙ c .before .number6 .ensures))
 
 pub said-spec : {M : Type 1} → statement M
 said-spec =
@@ -177,6 +198,12 @@ said-spec =
     says-requires-11
     enum-known-r-8
     says-requires-12
+    enum-known-r-9
+    number-requires-5
+    cast-says-5
+    number-requires-6
+    cast-says-6
+    says-requires-13
     returns
     returns-2
     returns-3
@@ -188,4 +215,5 @@ said-spec =
     returns-9
     returns-10
     returns-11
-    returns-12)
+    returns-12
+    returns-13)

@@ -1,9 +1,10 @@
 //! The cases that are tried: worked files and their damage, files at limits, and seeded ones.
 
 use reference::build::built_bytes;
-use reference::files::{read_dossier, write_dossier, write_sheet};
+use reference::files::{read_dossier, write_dossier, write_sheet, write_unit};
+use reference::find::found_bytes;
 use reference::generate::{
-    edges, limit_case, plain_case, with_damaged_dossier, with_thrown_dossier, worst,
+    edges, limit_case, plain_case, table_cases, with_damaged_dossier, with_thrown_dossier, worst,
     wrong_at_the_end, Case, Dice,
 };
 use reference::sizes::{MOST_DOSSIER_BYTES, MOST_SHEET_BYTES};
@@ -38,6 +39,9 @@ const MADE_OF_ONE: u64 = 4;
 /// One draft in so many is at a limit; such a file takes a hundred times as long to make.
 const DRAFTS_FOR_A_LIMIT: u64 = 100;
 
+/// How many seeded cases there are for each bare table of the seed.
+const CASES_FOR_A_TABLE: usize = 10;
+
 /// All cases, the seeded ones last. Each kind is made when it is asked for: a difference that is
 /// found early need not wait for the rest.
 pub fn all(seed: u64, count: usize, examples: &Path) -> io::Result<impl Iterator<Item = Tried>> {
@@ -45,20 +49,28 @@ pub fn all(seed: u64, count: usize, examples: &Path) -> io::Result<impl Iterator
     let worked = worked_cases(&example);
     let damaged = worked.clone().into_iter().flat_map(damaged_dossiers);
     let roomy = worked.clone().into_iter().flat_map(rooms);
+    let tables = worked_tables(&example);
+    let bounds = tables.clone().into_iter().flat_map(all_bounds);
+    let roomy_tables = tables.into_iter().flat_map(rooms_to_find);
     let fixed = numbered("worked file", worked)
         .chain(numbered("damage to a worked file", damaged))
         .chain(numbered("damage to a unit", damaged_units(&example)))
         .chain(numbered("damage to a sheet", damaged_sheets(&example)))
         .chain(numbered("edge", edges()))
         .chain(numbered("length", lengths(&example)))
-        .chain(numbered("output", roomy));
+        .chain(numbered("output", roomy))
+        .chain(numbered("bound", bounds))
+        .chain(numbered("output of find", roomy_tables));
     let worst = once_with(move || worst_cases(&example)).flatten();
     let judged = worst.clone().flat_map(large_sheets);
     let worst = worst.flat_map(tight_rooms);
     let seeded = (0..).flat_map(move |draft| made_of_one(seed, draft));
+    let tables = 0..(count / CASES_FOR_A_TABLE) as u64;
+    let tables = tables.flat_map(move |number| table_cases(seed, number));
     Ok(fixed
         .chain(numbered("worst dossier", worst))
         .chain(numbered("large sheet", judged))
+        .chain(numbered("bare table", tables))
         .chain(numbered("seeded case", seeded.take(count))))
 }
 
@@ -79,6 +91,7 @@ fn read_example(folder: &Path) -> io::Result<Case> {
         dossier: read("golden")?,
         unit: read("unit")?,
         sheet: read("sheet")?,
+        bound: 0,
         output_length: MOST_DOSSIER_BYTES,
     })
 }
@@ -109,6 +122,29 @@ fn with_sheet(case: &Case, sheet: Vec<u8>) -> Case {
         sheet,
         ..case.clone()
     }
+}
+
+/// The bare tables that find is tried on with each bound and each room.
+fn worked_tables(example: &Case) -> Vec<Case> {
+    let tables = worked::tables().into_iter();
+    let cases = tables.map(|table| with_unit(example, write_unit(&table)));
+    cases.collect()
+}
+
+/// The case with every number for the bound.
+fn all_bounds(case: Case) -> Vec<Case> {
+    let cases = (0..=u8::MAX).map(|bound| Case {
+        bound,
+        ..case.clone()
+    });
+    cases.collect()
+}
+
+/// The case with outputs of all lengths that make a difference to find, and some others.
+fn rooms_to_find(case: Case) -> Vec<Case> {
+    let fitting = found_bytes(&case.unit, case.bound).map_or(40, |found| found.len());
+    let lengths = [0, 1, fitting - 1, fitting, fitting + 1, fitting + 300];
+    with_rooms(&case, &lengths)
 }
 
 /// Each byte of a file changed to each value, each length cut, and bytes put behind it.

@@ -1,7 +1,7 @@
 //! The driver at the other end of two pipes.
 //!
-//! A request is the operation, the lengths of two files and the length of the output, four bytes
-//! each, and then the two files. An answer is the packed answer and what the call harmed, eight
+//! A request is the operation, a number, the lengths of two files and the length of the output, four
+//! bytes each, and then the two files. An answer is the packed answer and what the call harmed, eight
 //! bytes each, and then the output.
 
 use crate::cases::Tried;
@@ -99,8 +99,9 @@ fn ask(
 fn put_requests(bytes: &mut Vec<u8>, tried: &Tried) {
     for (number, operation) in OPERATIONS.iter().enumerate() {
         let lent = (operation.lent)(&tried.case);
+        let passed = usize::from(lent.number);
         let lengths = [lent.first.len(), lent.second.len(), lent.output_length];
-        for number in [number].into_iter().chain(lengths) {
+        for number in [number, passed].into_iter().chain(lengths) {
             bytes.extend((number as u32).to_le_bytes());
         }
         bytes.extend(lent.first);
@@ -170,8 +171,8 @@ fn shown(outcome: &Outcome) -> String {
 }
 
 fn files(lent: &Lent) -> String {
-    let (first, second) = (hex(lent.first), hex(lent.second));
-    format!("first file: [{first}]\nsecond file: [{second}]")
+    let (first, second, number) = (hex(lent.first), hex(lent.second), lent.number);
+    format!("first file: [{first}]\nsecond file: [{second}]\nnumber: {number}")
 }
 
 fn hex(bytes: &[u8]) -> String {

@@ -3,10 +3,11 @@
 use reference::generate::Case;
 use reference::pack;
 
-/// What an operation is lent: two files, of which the second may be empty, and an output.
+/// What an operation is lent: two files, of which the second may be empty, a number, and an output.
 pub struct Lent<'a> {
     pub first: &'a [u8],
     pub second: &'a [u8],
+    pub number: u8,
     pub output_length: usize,
 }
 
@@ -16,6 +17,7 @@ const DOSSIER: u64 = 1;
 const UNIT: u64 = 2;
 const SHEET: u64 = 3;
 const OUTPUT: u64 = 4;
+const NUMBER: u64 = 6;
 
 /// A file that answers concern, and their codes.
 pub type Codes = (u64, &'static [u64]);
@@ -39,11 +41,13 @@ const NOT_ACCEPTED: &[u64] = &[1, 2, 3, 4, 5, 6, 7, 8, 9, 10, 11];
 const NOT_COMPARED: &[u64] = &[1, 2, 3, 4, 6, 15];
 const NOT_RUN: &[u64] = &[1, 2, 3, 4, 6, 15, 16];
 
+const NOT_FOUND: &[u64] = &[1, 2, 3, 4, 6, 8, 18];
+
 /// A sheet has no numbers and no table.
 const NOT_JUDGED: &[u64] = &[1, 2, 5, 6, 12, 13, 14];
 
 /// Each in the place of its number in the driver.
-pub const OPERATIONS: [Operation; 7] = [
+pub const OPERATIONS: [Operation; 8] = [
     Operation {
         name: "check",
         lent: dossier_alone,
@@ -99,12 +103,24 @@ pub const OPERATIONS: [Operation; 7] = [
         answer: |lent, _| pack::judge_word(lent.first, lent.second),
         answers: &[(NO_FILE, &[0])],
     },
+    Operation {
+        name: "find",
+        lent: unit_bound_and_output,
+        answer: |lent, output| pack::find(lent.first, lent.number, output),
+        answers: &[
+            (NO_FILE, &[0]),
+            (UNIT, NOT_FOUND),
+            (NUMBER, &[3]),
+            (OUTPUT, &[17]),
+        ],
+    },
 ];
 
 fn dossier_alone(case: &Case) -> Lent<'_> {
     Lent {
         first: &case.dossier,
         second: &[],
+        number: 0,
         output_length: 0,
     }
 }
@@ -134,5 +150,14 @@ fn dossier_unit_and_output(case: &Case) -> Lent<'_> {
     Lent {
         output_length: case.output_length,
         ..dossier_and_unit(case)
+    }
+}
+
+fn unit_bound_and_output(case: &Case) -> Lent<'_> {
+    Lent {
+        first: &case.unit,
+        second: &[],
+        number: case.bound,
+        output_length: case.output_length,
     }
 }

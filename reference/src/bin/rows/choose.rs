@@ -4,7 +4,7 @@
 use crate::operation::Operation;
 use crate::row::{rows_of, Row};
 use crate::said::Kind;
-use reference::files::{read_dossier, read_unit};
+use reference::files::{read_dossier, read_unit, Unit};
 use reference::generate::{edges, plain_case, Case};
 use reference::needed::middles;
 use std::collections::{BTreeMap, HashSet};
@@ -19,7 +19,7 @@ const LONGEST_UNIT: usize = 60;
 const LONGEST_SHEET: usize = 120;
 const LONGEST_OUTPUT: usize = 120;
 
-/// The most needed words, and the most words among which a telling word is looked for.
+/// The most needed words, and the most words among which a telling or an access word is looked for.
 const MOST_WORDS: usize = 64;
 
 /// The rows, or what they lack.
@@ -105,12 +105,20 @@ fn is_small(case: &Case) -> bool {
 
 /// Whether the definitions of the answers go through few words.
 fn goes_through_few_words(case: &Case) -> bool {
+    let unit = read_unit(&case.unit).ok();
+    let states = unit.as_ref().map_or(1, Unit::states);
+    let few_to_find = unit.is_none_or(|unit| words(unit.inputs, states - 1) <= MOST_WORDS);
     let Ok(dossier) = read_dossier(&case.dossier) else {
-        return true;
+        return few_to_find;
     };
     let golden = &dossier.golden;
-    let unit_states = read_unit(&case.unit).map_or(1, |unit| unit.states());
-    let words = |longest| middles(golden.inputs, longest).take(MOST_WORDS + 1).count();
-    let needed = dossier.cover.len() * words(dossier.longest_middle()) * dossier.separating.len();
-    needed <= MOST_WORDS && words(golden.states() + unit_states - 1) <= MOST_WORDS
+    let middles = words(golden.inputs, dossier.longest_middle());
+    let needed = dossier.cover.len() * middles * dossier.separating.len();
+    let to_tell = words(golden.inputs, golden.states() + states - 1);
+    few_to_find && needed <= MOST_WORDS && to_tell <= MOST_WORDS
+}
+
+/// How many words of at most so many inputs there are, or that there are too many.
+fn words(inputs: u8, longest: u8) -> usize {
+    middles(inputs, longest).take(MOST_WORDS + 1).count()
 }

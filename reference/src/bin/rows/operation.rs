@@ -11,6 +11,7 @@ pub enum Operation {
     Compare,
     Judge,
     Cost,
+    Find,
 }
 
 // The numbers of the files, as the rules have them. A verdict concerns none.
@@ -19,15 +20,17 @@ const DOSSIER: u8 = 1;
 const UNIT: u8 = 2;
 const SHEET: u8 = 3;
 const OUTPUT: u8 = 4;
+const NUMBER: u8 = 6;
 
 impl Operation {
-    pub const ALL: [Operation; 6] = [
+    pub const ALL: [Operation; 7] = [
         Operation::Check,
         Operation::Build,
         Operation::Run,
         Operation::Compare,
         Operation::Judge,
         Operation::Cost,
+        Operation::Find,
     ];
 
     /// What the names of its rows begin with.
@@ -39,6 +42,7 @@ impl Operation {
             Operation::Compare => "compare",
             Operation::Judge => "judge",
             Operation::Cost => "cost",
+            Operation::Find => "find",
         }
     }
 
@@ -75,6 +79,12 @@ impl Operation {
                 (SHEET, &[2, 5, 6, 12, 13, 14]),
             ],
             Operation::Cost => &[(NONE, &[0]), (DOSSIER, &[2, 3, 4, 5, 6])],
+            Operation::Find => &[
+                (NONE, &[0]),
+                (UNIT, &[2, 3, 4, 6, 8, 18]),
+                (NUMBER, &[3]),
+                (OUTPUT, &[17]),
+            ],
         }
     }
 }

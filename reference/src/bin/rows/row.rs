@@ -6,6 +6,7 @@ use reference::build::build;
 use reference::check::check;
 use reference::compare::compare;
 use reference::cost::cost;
+use reference::find::find;
 use reference::generate::Case;
 use reference::judge::{judge, JudgeAnswer};
 use reference::line::run_line;
@@ -34,6 +35,7 @@ pub fn rows_of(name: &str, case: &Case) -> Vec<Row> {
             Operation::Compare => compares(case),
             Operation::Judge => judges(case),
             Operation::Cost => costs(case),
+            Operation::Find => finds(case),
         };
         Row {
             name: format!("{}-{name}", operation.name()),
@@ -98,6 +100,19 @@ fn costs(case: &Case) -> Stated {
     let answer = said(cost(&case.dossier));
     let statement = format!("Costs {} {}", list(&case.dossier), says(&answer));
     (answer, statement, ONE)
+}
+
+fn finds(case: &Case) -> Stated {
+    let before = output(case);
+    let mut after = before.clone();
+    let answer = said(find(&case.unit, case.bound, &mut after));
+    let (unit, bound, out) = (list(&case.unit), case.bound, list(&before));
+    let statement = format!(
+        "Finds {unit} {bound} {out} {} {}",
+        says(&answer),
+        list(&after)
+    );
+    (answer, statement, TWO)
 }
 
 /// An output before the call. Bytes that stand near each other differ, so that none can be taken

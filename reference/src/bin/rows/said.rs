@@ -4,6 +4,7 @@ use reference::build::Built;
 use reference::check::Accepted;
 use reference::compare::CompareAnswer;
 use reference::cost::Cost;
+use reference::find::Found;
 use reference::judge::JudgeAnswer;
 use reference::machine::Input;
 use reference::refusal::{File, Refusal};
@@ -88,6 +89,12 @@ impl From<Cost> for Said {
     }
 }
 
+impl From<Found> for Said {
+    fn from(found: Found) -> Said {
+        verdict(GOOD, &[found.length])
+    }
+}
+
 impl From<Refusal> for Said {
     fn from(refusal: Refusal) -> Said {
         let kind = Kind {
@@ -105,14 +112,15 @@ fn file_number(file: File) -> u8 {
         File::Unit => 2,
         File::Sheet => 3,
         File::Output => 4,
+        File::Number => 6,
     }
 }
 
 /// What is returned along with a refusal.
 fn values(refusal: &Refusal) -> Vec<usize> {
     match refusal {
-        Refusal::Unreached { state } => vec![usize::from(state.0)],
-        Refusal::NotSeparated { first, second } => {
+        Refusal::Unreached { state, .. } => vec![usize::from(state.0)],
+        Refusal::NotSeparated { first, second } | Refusal::NotReduced { first, second } => {
             vec![usize::from(first.0), usize::from(second.0)]
         }
         Refusal::Missing {

@@ -1,0 +1,5 @@
+pub mod Queueing
+pub mod Counting
+pub mod Searching
+pub mod Backwards
+pub mod Covering

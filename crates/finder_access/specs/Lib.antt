@@ -1,0 +1,3 @@
+pub mod Queue
+pub mod Search
+pub mod Reached
