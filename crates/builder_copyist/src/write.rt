@@ -1,6 +1,6 @@
 // What build writes, once it is known that there is room for all of it (document 01, "Build").
 use reader::DossierShape;
-use trie_lister::copy;
+use texts::copy;
 use trie_lister::list;
 ghost use Prim.Native.Nat.{_+_, _/_, _%_, _≤_, _<_};
 ghost use mathlib.Core.Path.{_≡_};

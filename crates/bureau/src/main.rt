@@ -11,12 +11,12 @@ use bureau_sheets::judge_line;
 use libc::STDOUT_FILENO;
 use line::Line;
 use rules::MOST_DOSSIER_BYTES;
+use texts::same_text;
 ghost use mathlib.Core.Path.{_≡_};
 ghost use mathlib.Core.List.{[], _∷_};
 ghost use Prim.Native.Nat.{_≤_};
 ghost use lib.ListN.{length};
 ghost use Rattle.io.specs.Counts.{Counts};
-ghost use Rattle.rules.specs.Words.{same};
 ghost use Rattle.line.specs.Lines.{lineRoom};
 ghost use Rattle.bureau.specs.Bounds.{boundFrom, boundGiven};
 
@@ -147,22 +147,6 @@ fn print_find(bound: u8) {
     print_written(found, 4, &out);
 }
 
-fn is_word(given: &[u8], name: &[u8]) -> bool
-    ensures { λ r. ⌜ r ≡ same (now (given .entry)) (now (name .entry)) ⌝ }
-{
-    if given.len() != name.len() {
-        return false;
-    }
-    let mut i = 0;
-    while i < name.len() {
-        if given[i] != name[i] {
-            return false;
-        }
-        i += 1;
-    }
-    true
-}
-
 // The bound that a number becomes with one more digit behind it.
 fn with_digit(number: u8, byte: u8) -> Given
     ensures { λ r. ⌜ r ≡ boundFrom number (byte ∷ []) ⌝ }
@@ -212,9 +196,9 @@ fn print_usage() {
 
 // An operation on one file.
 fn print_of_one(operation: &[u8]) {
-    if is_word(operation, b"check") {
+    if same_text(operation, b"check") {
         print_check();
-    } else if is_word(operation, b"cost") {
+    } else if same_text(operation, b"cost") {
         print_cost();
     } else {
         print_usage();
@@ -223,13 +207,13 @@ fn print_of_one(operation: &[u8]) {
 
 // An operation on two files.
 fn print_of_two(operation: &[u8]) {
-    if is_word(operation, b"build") {
+    if same_text(operation, b"build") {
         print_build();
-    } else if is_word(operation, b"run") {
+    } else if same_text(operation, b"run") {
         print_run();
-    } else if is_word(operation, b"compare") {
+    } else if same_text(operation, b"compare") {
         print_compare();
-    } else if is_word(operation, b"judge") {
+    } else if same_text(operation, b"judge") {
         print_judge();
     } else {
         print_usage();
@@ -238,7 +222,7 @@ fn print_of_two(operation: &[u8]) {
 
 // An operation on two files, with a number between their names.
 fn print_of_three(operation: &[u8]) {
-    if !is_word(operation, b"find") {
+    if !same_text(operation, b"find") {
         print_usage();
         return;
     }

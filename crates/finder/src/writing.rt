@@ -3,7 +3,7 @@ use finder_access::write_cover;
 use finder_separators::write_separators;
 use numbers::wide;
 use reader::UnitShape;
-use trie_lister::copy;
+use texts::copy;
 ghost use mathlib.Core.Path.{_≡_};
 ghost use mathlib.Core.List.{[], _∷_, _++_};
 ghost use Prim.Native.Nat.{_+_, _-_, _≤_, _<_};

@@ -81,11 +81,8 @@ unfolding wordsFrom
 from-count text places j zero = refl
 from-count text places j (suc n) = ap suc (from-count text places (suc j) n)
 
--- THE WORDS that are kept are those that the rules find, and n is how many they are.
+-- THE WORDS that are kept are those that the rules find.
 module _ (s : List ℕ) (x : UnitShape) (u : UnitData) (m text places : List ℕ) (n : ℕ) (stands : UnitStands s x u) (distances : DistancesAt s x m)
     (separators : SeparatorsAt s x m text places n) where
   pub separators-found : wordsFrom text places 0 n ≡ foundSeparating u
   separators-found = separators .kept ∙ told-separating s x u m stands distances
-
-  pub separators-count : n ≡ length (foundSeparating u)
-  separators-count = sym (from-count text places 0 n) ∙ ap length separators-found

@@ -41,14 +41,6 @@ module _ (s : List ℕ) (x : UnitShape) (u : UnitData) (stands : UnitStands s x 
         (subst (λ M. Marked (x .inputs) M (x .states - 1) p q (markOf m p q)) machine-is
         (distances .marked p q (omega (arith, stands .states)) (omega (arith, stands .states)))))
 
-    -- a distance is less than there are states
-    pub distance-small : (p q : ℕ) → p < x .states → q < x .states → markOf m p q < x .states
-    distance-small p q hp hq = go (markOf m p q) refl
-      where
-        go : (d : ℕ) → markOf m p q ≡ d → markOf m p q < x .states
-        go zero e = omega arith
-        go (suc d) e = let (le, far) = distances .marked p q hp hq .marked (omega arith) in omega arith
-
     module _ (p q : ℕ) (two : p < q) (state : q < u .states) where
       -- without a distance there is no word, and with one there is what is read off
       none-is : markOf m p q ≡ 0 → tellingWord u (p, q) ≡ none

@@ -164,12 +164,9 @@ module _ (k : ℕ) (M : Machine) where
                 ]
           ]
 
-  -- The pair the other way round has the same distance, the same first telling word and the same mark; a state and itself have none.
+  -- The pair the other way round has the same distance and the same mark; a state and itself have none.
   pub distance-swap : (p q r : ℕ) → Distance k M p q r → Distance k M q p r
   distance-swap p q r d = record { told = told-swap r p q (d .told); no-shorter = λ s less told. d .no-shorter s less (told-swap s q p told) }
-
-  pub first-swap : (p q : ℕ) (w : Word) → FirstTold k M p q w → FirstTold k M q p w
-  first-swap p q w f = record { valid = f .valid; tells = λ e. f .tells (sym e); earlier = λ v valid before. sym (f .earlier v valid before) }
 
   pub marked-swap : (r p q x : ℕ) → Marked k M r p q x → Marked k M r q p x
   marked-swap r p q x m =

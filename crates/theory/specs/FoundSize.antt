@@ -5,15 +5,15 @@ use native.Mathlib.Omega.{arith}
 use native.Mathlib.Nat.{mul-le-mul}
 use mathlib.Core.Path.{_≡_, refl, sym, ap, _∙_}
 use mathlib.Core.Logic.{inl, inr}
-use mathlib.Core.List.{List, [], _∷_, map, flatMap, map-map, List·Memᴰ·head, List·Memᴰ·tail}
+use mathlib.Core.List.{List, [], _∷_, map, map-map, List·Memᴰ·head, List·Memᴰ·tail}
 use mathlib.Core.Bool.{Bool, not}
 use lib.Dec.{eqb}
 use lib.ListN.{length, length-append}
 use Rattle.rules.specs.Lists.{_∈_, sum, keep}
 use Rattle.rules.specs.Sizes.{mostUnitBytes, mostStates}
 use Rattle.rules.specs.Words.{Word, same}
-use Rattle.rules.specs.Machines.{Machine, Complete, Table}
-use Rattle.rules.specs.Files.{DossierData, UnitData, unit, countBytes, outputBytes, entryBytes, tableBytes, wordsBytes, frontBytes, dossierBytes}
+use Rattle.rules.specs.Machines.{Machine, Complete}
+use Rattle.rules.specs.Files.{DossierData, UnitData, unit, countBytes, tableBytes, wordsBytes, frontBytes, dossierBytes}
 use Rattle.rules.specs.Needed.{pairs, distinct}
 use Rattle.rules.specs.Find.{tellingWord, wordOf, foundCover, foundSeparating, foundDossier, find}
 use Rattle.rules.specs.declared.File.the-variants.{Unit as UnitFile}
@@ -30,6 +30,7 @@ use Rattle.theory.specs.Classes.{alike?, few-alike}
 use Rattle.theory.specs.Machines.{golden-complete}
 use Rattle.theory.specs.Access.{FirstTold, told-short, told-first}
 use Rattle.theory.specs.Files.{unit-sized}
+use Rattle.theory.specs.Sections.{table-long}
 use Rattle.theory.specs.Bounds.{section-long}
 use Rattle.theory.specs.Find.{AllReachable, AllTellable, telling-is, found-dossier, cover-short, Drafts, drafted, FindRefuses, malformed, three, eight, eighteen, over-size, no-room, find-refuses}
 use Rattle.theory.specs.Outcomes.{read-refuses}
@@ -109,11 +110,6 @@ short-sum (w ∷ ws) short =
     let rest = short-sum ws (λ v m. short v (List·Memᴰ·tail m)) in
     let here = short w (List·Memᴰ·head refl) in
     omega arith
-
-table-long : (t : Table) → length (flatMap entryBytes t) ≡ 2 * length t
-unfolding flatMap entryBytes outputBytes
-table-long [] = refl
-table-long (e ∷ t) = let rest = table-long t in rw length-append (omega arith)
 
 module _ (u : UnitData) (sized : SizedTable (u .inputs) (u .states) (u .table)) (reachable : AllReachable u) (tellable : AllTellable u) where
   whole : Complete (u .inputs) (unit u)

@@ -1,15 +1,16 @@
 -- Laws of the searches that the rules make over lists. A test says `true` or `false`; what `first` finds in a list that rises
 -- is the least element that passes.
-use Prim.Native.Nat.{ℕ, zero, suc, _+_, _≤_, _<_}
+use Prim.Native.Nat.{ℕ, zero, suc, _+_, _*_, _≤_, _<_}
 use native.Mathlib.Omega.{arith}
 use native.Mathlib.Decide.{ℕ-discrete}
-use native.Mathlib.Nat.{zero-add, add-zero}
+use native.Mathlib.Nat.{zero-add, add-zero, zero-mul, suc-mul}
 use mathlib.Core.Path.{_≡_, refl, sym, _∙_, ap}
 use mathlib.Core.Logic.{_⊎_, inl, inr, ⊎-elim}
-use mathlib.Core.List.{List, [], _∷_, _++_, map, flatMap, List·Memᴰ·head, List·Memᴰ·tail, List·Memᴰ·not-nil, List·Memᴰ·cases-cons, List·Memᴰ·append-cases, Memᴰ·append-left, Memᴰ·append-right, Memᴰ·of-map}
+use mathlib.Core.List.{List, [], _∷_, _++_, map, flatMap, append-nil, append-assoc, List·Memᴰ·head, List·Memᴰ·tail, List·Memᴰ·not-nil, List·Memᴰ·cases-cons, List·Memᴰ·append-cases, Memᴰ·append-left, Memᴰ·append-right, Memᴰ·of-map}
 use mathlib.Core.Bool.{Bool, true, false, false≢true, true≢false}
 use mathlib.Core.Option.{Option, none, some}
-use lib.ListN.{length, getD, take, getElem?}
+use lib.ListN.{length, getD, take, getElem?, length-append, List·getD-append}
+use lib.Seq.{getD-append-add}
 use Rattle.rules.specs.Lists.{_∈_, numbersFrom, placedFrom, placed, any, all, first, keep}
 
 -- a test has one of two outcomes
@@ -98,6 +99,14 @@ module _ {A : Type 0} (test : A → Bool) where
   none-first [] h = refl
   none-first (x ∷ l) h = rw (h x (List·Memᴰ·head refl)) (none-first l (λ z m. h z (List·Memᴰ·tail m)))
 
+  pub first-some : {x : A} (l : List A) → first test l ≡ some x → (x ∈ l) × (test x ≡ true)
+  first-some [] e = none-not-some e
+  first-some {x} (z ∷ l) e =
+      elim (outcome (test z)) [
+        | inl p ↦ let is : z ≡ x = some-injective (rw p at e) in (List·Memᴰ·head (sym is), rw (← is) p)
+        | inr p ↦ let (m, q) = first-some l (rw p at e) in (List·Memᴰ·tail m, q)
+      ]
+
 -- Two tests that agree on the elements of a list find the same.
 pub first-same : {A : Type 0} (f g : A → Bool) (l : List A) → ((x : A) → x ∈ l → f x ≡ g x) → first f l ≡ first g l
 first-same f g [] h = refl
@@ -119,6 +128,13 @@ pub keep-length : {A : Type 0} (test : A → Bool) (l : List A) → length (keep
 keep-length test [] = omega arith
 keep-length test (a ∷ l) =
     elim (outcome (test a)) [ inl p ↦ rw p (omega (arith, keep-length test l)) | inr p ↦ rw p (omega (arith, keep-length test l)) ]
+
+-- It gets shorter where one of its elements is not kept.
+pub keep-shorter : {A : Type 0} (test : A → Bool) {x : A} {l : List A} → x ∈ l → test x ≡ false → length (keep test l) < length l
+keep-shorter test (List·Memᴰ·head {x = z} {xs = l} h) p = rw (rw h at p) (omega (arith, keep-length test l))
+keep-shorter test (List·Memᴰ·tail {x = z} m) p =
+    let less = keep-shorter test m p in
+    elim (outcome (test z)) [ inl q ↦ rw q (omega arith) | inr q ↦ rw q (omega arith) ]
 
 pub placed-length : {A : Type 0} (i : ℕ) (l : List A) → length (placedFrom i l) ≡ length l
 placed-length i [] = refl
@@ -212,6 +228,16 @@ module _ {A B : Type 0} (f : A → List B) where
         | inr later ↦ let (z, in-z, in-y) = of-flatMap l later in (z, List·Memᴰ·tail in-z, in-y)
       ]
 
+  pub flatMap-append : (l r : List A) → flatMap f (l ++ r) ≡ flatMap f l ++ flatMap f r
+  unfolding flatMap
+  flatMap-append [] r = refl
+  flatMap-append (x ∷ l) r = rw (flatMap-append l r, append-assoc)
+
+  -- One element more makes what is made of it come last.
+  pub flatMap-last : (l : List A) (x : A) → flatMap f (l ++ (x ∷ [])) ≡ flatMap f l ++ f x
+  unfolding flatMap
+  flatMap-last l x = rw (flatMap-append l (x ∷ []), append-nil)
+
 -- What stands at a place of a list.
 abbrev pub At : {A : Type 0} → List A → ℕ → A → Type 0
 At l i x = getElem? l i ≡ some x
@@ -230,6 +256,11 @@ module _ {A : Type 0} where
   at-below [] i e = none-not-some e
   at-below (z ∷ l) zero e = omega arith
   at-below (z ∷ l) (suc i) e = let h = at-below l i e in omega arith
+
+  pub at-getD : (l : List A) (i : ℕ) (d : A) {x : A} → At l i x → getD l i d ≡ x
+  at-getD [] i d e = none-not-some e
+  at-getD (z ∷ l) zero d e = some-injective e
+  at-getD (z ∷ l) (suc i) d e = at-getD l i d e
 
   pub in-take : (l : List A) (i j : ℕ) {x : A} → At l j x → j < i → x ∈ take i l
   in-take l zero j e h = absurd (omega arith)
@@ -415,3 +446,43 @@ map-at f (a ∷ l) (suc i) e = map-at f l i e
 pub map-length : {A B : Type 0} (f : A → B) (l : List A) → length (map f l) ≡ length l
 map-length f [] = refl
 map-length f (a ∷ l) = ap suc (map-length f l)
+
+-- What stands at a place of a table whose rows are made of one list and whose columns of another.
+pub map-getD : {A B : Type 0} (f : A → B) (l : List A) (i : ℕ) (a : A) (b : B) → i < length l → getD (map f l) i b ≡ f (getD l i a)
+map-getD f [] i a b h = absurd (omega arith)
+map-getD f (x ∷ l) zero a b h = refl
+map-getD f (x ∷ l) (suc i) a b h = map-getD f l i a b (omega arith)
+
+pub numbers-getD : (j n i d : ℕ) → i < n → getD (numbersFrom j n) i d ≡ j + i
+numbers-getD j zero i d h = absurd (omega arith)
+numbers-getD j (suc n) zero d h = sym (add-zero j)
+numbers-getD j (suc n) (suc i) d h = let e : j + suc i ≡ suc j + i = omega arith in rw e (numbers-getD (suc j) n i d (omega arith))
+
+module _ {A B C : Type 0} (f : A → B → C) where
+  pub rows-getD : (l : List A) (r : List B) (q i : ℕ) (a : A) (b : B) (c : C) → q < length l → i < length r
+      → getD (flatMap (λ x. map (f x) r) l) (q * length r + i) c ≡ f (getD l q a) (getD r i b)
+  unfolding flatMap
+  rows-getD [] r q i a b c state input = absurd (omega arith)
+  rows-getD (x ∷ l) r zero i a b c state input =
+      let long = map-length (f x) r in
+      let e : 0 * length r + i ≡ i = omega arith in
+      rw e (List·getD-append (map (f x) r) (flatMap (λ x. map (f x) r) l) c i (omega arith) ∙ map-getD (f x) r i b c input)
+  rows-getD (x ∷ l) r (suc q) i a b c state input =
+      let long = map-length (f x) r in
+      let e : suc q * length r + i ≡ length (map (f x) r) + (q * length r + i) = rw (long, suc-mul q (length r)) (omega arith) in
+      rw e (getD-append-add (map (f x) r) (flatMap (λ x. map (f x) r) l) (q * length r + i) c ∙ rows-getD l r q i a b c (omega arith) input)
+
+  pub rows-length : (l : List A) (r : List B) → length (flatMap (λ x. map (f x) r) l) ≡ length l * length r
+  unfolding flatMap
+  rows-length [] r = sym (zero-mul (length r))
+  rows-length (x ∷ l) r =
+      rw (length-append (map (f x) r) (flatMap (λ x. map (f x) r) l), map-length (f x) r, rows-length l r, suc-mul (length l) (length r)) (omega arith)
+
+-- Of two elements of a list that rises one comes before the other, unless they are the same.
+pub rising-either : {A : Type 0} (before : A → A → Type 0) (l : List A) → Rising before l → (x y : A) → x ∈ l → y ∈ l → (x ≡ y) ⊎ (before x y ⊎ before y x)
+rising-either before [] rising x y m n = absurd (List·Memᴰ·not-nil m)
+rising-either before (z ∷ l) (ahead, rising) x y m n =
+    elim (List·Memᴰ·cases-cons m) [
+      | inl e ↦ elim (List·Memᴰ·cases-cons n) [ inl e′ ↦ inl (e ∙ sym e′) | inr n′ ↦ inr (inl (rw e (ahead y n′))) ]
+      | inr m′ ↦ elim (List·Memᴰ·cases-cons n) [ inl e′ ↦ inr (inr (rw e′ (ahead x m′))) | inr n′ ↦ rising-either before l rising x y m′ n′ ]
+    ]

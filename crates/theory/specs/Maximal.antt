@@ -10,7 +10,7 @@ use lib.ListN.{length, length-append}
 use Rattle.rules.specs.Lists.{_∈_, any, keep}
 use Rattle.rules.specs.Words.{Word, same, Begins, begins, beginsProperly, byInputs, isIn}
 use Rattle.rules.specs.Needed.{distinct, maximalOf, insert, ordered}
-use Rattle.theory.specs.Lists.{outcome, clash, any-true, any-false, none-any, in-keep, of-keep, Rising, rising-too}
+use Rattle.theory.specs.Lists.{outcome, clash, any-true, any-false, none-any, in-keep, of-keep, keep-shorter, Rising, rising-too}
 use Rattle.theory.specs.Words.{both, same-true, same-refl, same-false, differ-same, in-isIn, isIn-in, begins-true, begins-of}
 use Rattle.theory.specs.Orders.{ByInputs, byInputs-transitive, byInputs-total}
 
@@ -94,8 +94,23 @@ distinct-order {A} before f (a ∷ l) (ahead, r) = (
     other : (w : Word) → w ∈ keep (λ v. not (same v (f a))) (distinct (map f l)) → w ≢ f a
     other w m = same-false (not-true _ (of-keep (λ v. not (same v (f a))) (distinct (map f l)) m .1))
 
+-- Words that are apart are no more than those of a list that has them all,
+apart-fewer : (l r : List Word) → Apart l → ((w : Word) → w ∈ l → w ∈ r) → length l ≤ length r
+apart-fewer [] r apart sub = omega arith
+apart-fewer (v ∷ l) r (other, apart) sub =
+    let test : Word → Bool = λ w. not (same w v) in
+    let less = keep-shorter test (sub v (List·Memᴰ·head refl)) (rw (same-refl v)) in
+    omega (arith, apart-fewer l (keep test r) apart (λ w m. in-keep test (sub w (List·Memᴰ·tail m)) (rw (differ-same (λ e. other w m (sym e))))))
+
+-- so lists with the same words have as many distinct ones.
+pub distinct-count : (l r : List Word) → ((w : Word) → (w ∈ l) ↔ (w ∈ r)) → length (distinct l) ≡ length (distinct r)
+distinct-count l r alike =
+    let fewer = apart-fewer (distinct l) (distinct r) (distinct-apart l) (λ w m. in-distinct w r .1 (alike w .0 (in-distinct w l .0 m))) in
+    let more = apart-fewer (distinct r) (distinct l) (distinct-apart r) (λ w m. in-distinct w l .1 (alike w .1 (in-distinct w r .0 m))) in
+    omega arith
+
 -- One word more is kept behind the others, unless it is there already.
-keep-append : {A : Type 0} (test : A → Bool) (l r : List A) → keep test (l ++ r) ≡ keep test l ++ keep test r
+pub keep-append : {A : Type 0} (test : A → Bool) (l r : List A) → keep test (l ++ r) ≡ keep test l ++ keep test r
 keep-append test [] r = refl
 keep-append test (x ∷ l) r = elim (outcome (test x)) [ inl e ↦ rw (e, keep-append test l r) | inr e ↦ rw (e, keep-append test l r) ]
 

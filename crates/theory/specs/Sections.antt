@@ -73,6 +73,12 @@ reads-entry n =
     (λ e small. (e .0, lt-ltb _ _ small, (tt, refl), refl))
     (λ q e is (any, both). let next-is : e .0 ≡ q = ap (λ f. f .0) both in rw next-is (ltb-true q n is, refl))
 
+-- an entry takes two bytes
+pub table-long : (t : Table) → length (flatMap entryBytes t) ≡ 2 * length t
+unfolding flatMap entryBytes outputBytes
+table-long [] = refl
+table-long (e ∷ t) = let rest = table-long t in rw length-append (omega arith)
+
 -- a table of n states and k inputs: an entry for each state and input, whose next state is a state
 abbrev pub Entries : ℕ → ℕ → Table → Type 0
 Entries k n t = (length t ≡ n * k) × ((e : ℕ × ℕ) → e ∈ t → e .0 < n)

@@ -8,8 +8,8 @@ use native.Mathlib.Nat.{sub-zero}
 use native.Mathlib.Numerals.{add-one}
 use Rattle.rules.specs.Words.{Word}
 use lib.Dec.{eqb}
-use lib.ListN.{length, getD, set, take, drop, length-set, length-append}
-use lib.Seq.{take-take, take-set-le, paste, paste-suc, take-paste, drop-paste, drop-set-lt, drop-drop, take-suc-set, append-snoc, length-take-le}
+use lib.ListN.{length, set, take, drop, length-set, length-append}
+use lib.Seq.{take-take, take-set-le, paste, take-paste, drop-paste, drop-set-lt, drop-drop, take-suc-set, append-snoc, length-take-le}
 use borrow.Author.Tests.{eq-eqb, ne-eqb}
 use Rattle.trie.specs.Model.{Trie, size, firstOf, childIn, wordOf}
 use Rattle.trie.specs.Grow.{child-lt}
@@ -17,9 +17,6 @@ use Rattle.trie.specs.Words.{child-gt, child-word}
 use Rattle.trie_lister.specs.Visits.{bytes-append, bytes-one, bytes-none, gather, leaves, bytesOf, WroteOf, Visiting}
 use Rattle.trie_lister.specs.declared.Visited.{Visited}
 use Rattle.trie_lister.specs.declared.Visited.the-variants.{Done, Full}
-
-pub paste-next : (d : List ℕ) (at : ℕ) (s x : List ℕ) (j : ℕ) → at + j < length d → j < length s → x ≡ paste d at s j → set x (at + j) (getD s j 0) ≡ paste d at s (j + 1)
-paste-next d at s x j hd hs e = rw (e, add-one) (paste-suc d at s j 0 hd hs)
 
 module _ (path out : List ℕ) (n at : ℕ) (fits : n ≤ length path) where
   pub emit-full : length out - at ≤ n → at ≤ length out → WroteOf (n ∷ take n path) out at out Full

@@ -1,11 +1,11 @@
 // The words of a trie, listed and measured: the maximal ones, in order of inputs, each behind its length byte.
 use rules::Input;
+use texts::copy;
 use trie::child;
 ghost use mathlib.Core.Path.{_≡_};
 ghost use Prim.Native.Nat.{ℕ, _+_, _≤_, _<_};
 ghost use mathlib.Core.List.{_∷_};
 ghost use lib.ListN.{length, take};
-ghost use lib.Seq.{paste};
 ghost use Rattle.rules.specs.Words.{Word};
 ghost use Rattle.trie.specs.Model.{Trie, size};
 ghost use Rattle.trie.specs.Holds.{Holds};
@@ -21,18 +21,6 @@ pub enum Visited {
 pub enum Measured {
     Fits(usize, usize),
     Over,
-}
-
-// The first n bytes of path to out at the place at.
-pub fn copy(path: &[u8], n: usize, out: &mut [u8], at: usize)
-    requires { ⌜ (n ≤ length (now path)) × (at + n ≤ length (now out)) ⌝ }
-    ensures { λ _. ⌜ now (out .exit) ≡ paste (now (out .entry)) at (now (path .entry)) n ⌝ }
-{
-    let mut i = 0;
-    while i < n {
-        out[at + i] = path[i];
-        i += 1;
-    }
 }
 
 // The word that the first n bytes of path are, behind its length byte, to out at the place at.

@@ -1,10 +1,10 @@
 use borrow.Author.Needs.{needs}
-use Rattle.bureau.proofs.Names.{Alike, other-length, alike-start, alike-end, alike-inside, alike-next, alike-other}
+use Rattle.texts.proofs.Alike.{Alike, other-length, alike-start, alike-end, alike-inside, alike-next, alike-other}
 use Prim.Native.Nat.{_-_}
 use native.Mathlib.Omega.{arith}
 use lib.ListN.{length}
-use Rattle.bureau.proofs.is_word.Statement.{statement}
-use Rattle.bureau.proofs.is_word.Tie as tie
+use Rattle.texts.proofs.same_text.Statement.{statement}
+use Rattle.texts.proofs.same_text.Tie as tie
 
 abbrev Inv-loop : tie.InvT-loop
 Inv-loop given name i₀ i = Alike given name i
@@ -39,8 +39,8 @@ loop-again c = alike-next _ _ _ (c .before .before .before .before .loop .inv) (
 returns-3 : tie.Need-returns-3 Inv-loop μ-loop
 returns-3 c = alike-end _ _ _ (c .before .loop .inv) (omega (arith, c .loop-test .left))
 
-pub is-word-spec : {M : Type 1} → statement M
-is-word-spec =
+pub same-text-spec : {M : Type 1} → statement M
+same-text-spec =
     tie.close
     (tie.spec
     Inv-loop

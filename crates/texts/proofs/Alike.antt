@@ -1,4 +1,4 @@
--- Laws of holding a word that was given against a name, byte by byte.
+-- Laws of holding one text against another, byte by byte.
 use Prim.Native.Nat.{ℕ, _+_, _≤_, _<_}
 use native.Mathlib.Omega.{arith}
 use mathlib.Core.Path.{_≡_, refl, sym, _∙_, ap}

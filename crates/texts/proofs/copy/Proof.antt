@@ -4,19 +4,19 @@ use native.Mathlib.Omega.{arith}
 use lib.ListN.{length, length-set}
 use lib.Seq.{paste, paste-zero}
 use borrow.Author.Needs.{needs}
-use Rattle.trie_lister.proofs.Writes.{paste-next}
-use Rattle.trie_lister.proofs.copy.Statement.{statement}
-use Rattle.trie_lister.proofs.copy.Tie as tie
+use Rattle.texts.proofs.Copied.{paste-next}
+use Rattle.texts.proofs.copy.Statement.{statement}
+use Rattle.texts.proofs.copy.Tie as tie
 
 abbrev Inv-loop : tie.InvT-loop
-Inv-loop path n out₀ at i₀ out i = (i ≤ n) × (out ≡ paste out₀ at path i) × (length out ≡ length out₀)
+Inv-loop text n out₀ at i₀ out i = (i ≤ n) × (out ≡ paste out₀ at text i) × (length out ≡ length out₀)
 
 abbrev μ-loop : tie.MeasureT-loop
-μ-loop path n out₀ at i₀ out i = n - i
+μ-loop text n out₀ at i₀ out i = n - i
 
 loop-holds : tie.Need-loop-holds Inv-loop μ-loop
 loop-holds c =
-    let a = c .args in (search needs, paste-zero (a .out .now) (a .at) (a .path .now), refl)
+    let a = c .args in (search needs, paste-zero (a .out .now) (a .at) (a .text .now), refl)
 
 shared-slice-read-out : tie.Need-shared-slice-read-out Inv-loop μ-loop
 shared-slice-read-out c = search needs
@@ -37,7 +37,7 @@ loop-again : tie.Need-loop-again Inv-loop μ-loop
 loop-again c =
     let a = c .before .before .before .args in let inv = c .before .before .loop .inv in (
       search needs,
-      paste-next (a .out .now) (a .at) (a .path .now) (c .before .before .loop .out) (c .before .before .loop .i) (omega arith) (omega arith) (inv .1),
+      paste-next (a .out .now) (a .at) (a .text .now) (c .before .before .loop .out) (c .before .before .loop .i) (omega arith) (omega arith) (inv .1),
       simp length-set (inv .2),
     )
 
