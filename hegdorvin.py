@@ -37,6 +37,7 @@ STATUS = {
     "AGREES": GOOD,
     "COST": GOOD,
     "FOUND": GOOD,
+    "IMPORTED": GOOD,
     "FAILS": BAD,
     "DIFFERS": BAD,
     "DEVIATES": BAD,
@@ -44,10 +45,10 @@ STATUS = {
 }
 
 # The answers with which an output is written.
-WRITTEN = ("BUILT", "FOUND")
+WRITTEN = ("BUILT", "FOUND", "IMPORTED")
 
 # The sorts of file by their letter in a line: a name, and the most bytes one may have.
-SORTS = {"D": ("dossier", 65535), "U": ("unit", 65535), "S": ("sheet", 131070)}
+SORTS = {"D": ("dossier", 65535), "U": ("unit", 65535), "S": ("sheet", 131070), "T": ("text", 65535)}
 
 REFUSALS = {
     1: "TOO LONG",
@@ -68,6 +69,9 @@ REFUSALS = {
     16: "TOO MANY STATES",
     17: "NO ROOM",
     18: "NOT REDUCED",
+    19: "BAD LINE",
+    20: "CONTRADICTION",
+    21: "INCOMPLETE",
 }
 
 
@@ -480,6 +484,168 @@ def read_sheet(data):
 READERS = {"dossier": read_dossier, "unit": read_unit, "sheet": read_sheet}
 
 
+# ---- KISS2 texts, by the rules of docs/KISS2.md: what is mended in them, and what is wrong about a line
+
+# The directives that say a number, and the most that it may be.
+NUMBERS = {b".i": 4, b".o": 8, b".p": 999999999, b".s": 64}
+MOST_NAME, MOST_STATES = 16, 64
+
+
+def text_lines(data):
+    lines = data.split(b"\n")
+    return lines if lines[-1] else lines[:-1]
+
+
+def fields_of(line):
+    """The fields of a line; none where it is skipped."""
+    found = [field for field in re.split(rb"[ \t\r]", line) if field]
+    return [] if found and found[0].startswith(b"#") else found
+
+
+def quoted(field):
+    shown = field[:40].decode(errors="backslashreplace")
+    return f"`{shown}{'...' if len(field) > 40 else ''}`"
+
+
+def mended(text):
+    """The text with an `.e` where it has none, and without an `.r` that names no term's state; and what was mended. Every line
+    stays where it is, so that a refusal names the maker's own."""
+    most = SORTS["T"][1]
+    if len(text.data) > most:
+        return text, []  # it was not read to its end
+    told, lines = [], text_lines(text.data)
+    found = [fields_of(line) for line in lines]
+    states = {name for term in found if len(term) == 4 for name in term[1:3]}
+    for place, line in enumerate(found):
+        if len(line) == 2 and line[0] == b".r" and line[1] not in states:
+            told.append(f"line {place + 1}: `.r` is left out, as {quoted(line[1])} is no term's state")
+            lines[place] = b"#"
+    if [b".e"] not in found:
+        lines.append(b".e")
+        told.append(f"line {len(lines)}: `.e` is added, as the text has none")
+    better = b"\n".join(lines)
+    if not told or len(better) > most:
+        return text, []  # there is nothing to mend, or no room for an `.e`
+    return replace(text, data=better), told
+
+
+class Kiss2:
+    """A text as far as it was read."""
+
+    def __init__(self):
+        self.said = {}  # of each directive its line, and the number or the name
+        self.names = []
+        self.terms = []  # the lines of the terms, and their four fields
+        self.is_ended = False
+
+    def fault(self, line, found):
+        """Takes in the fields of a line. What is wrong about them, if anything is."""
+        first = found[0]
+        if self.is_ended:
+            return "nothing but comments and empty lines may follow `.e`"
+        if first == b".e":
+            self.is_ended = len(found) == 1
+            return None if self.is_ended else "`.e` has to stand alone on its line"
+        if first in NUMBERS or first == b".r":
+            return self.directive_fault(line, first, found[1:])
+        if first.startswith(b"."):
+            return f"{quoted(first)} is none of `.i`, `.o`, `.p`, `.s`, `.r` and `.e`"
+        return self.term_fault(line, found)
+
+    def directive_fault(self, line, directive, values):
+        shown = quoted(directive)
+        if len(values) != 1:
+            return f"{shown} has to be followed by one field, and not by {len(values)}"
+        if self.terms:
+            return f"{shown} has to stand before the first term, which is on line {self.terms[0][0]}"
+        if directive in self.said:
+            return f"{shown} was said on line {self.said[directive][0]} already"
+        (value,) = values
+        self.said[directive] = line, value
+        if directive == b".r":
+            return self.name_fault(value)
+        most = NUMBERS[directive]
+        if not re.fullmatch(rb"[0-9]{1,9}", value) or not 1 <= int(value) <= most:
+            return f"{shown} needs a number from 1 to {most}, in at most nine digits, and {quoted(value)} is none"
+        return None
+
+    def number(self, directive, otherwise):
+        return int(self.said[directive][1]) if directive in self.said else otherwise
+
+    def name_fault(self, name):
+        if len(name) > MOST_NAME:
+            return f"the name {quoted(name)} has {len(name)} bytes, and a name has at most {MOST_NAME}"
+        if not all(0x21 <= byte <= 0x7E for byte in name):
+            return f"the name {quoted(name)} has a byte that is no printable character"
+        if name not in self.names:
+            self.names.append(name)
+        most = self.number(b".s", MOST_STATES)
+        if len(self.names) <= most:
+            return None
+        limit = "`.s` says" if b".s" in self.said else "a text may have"
+        return f"{quoted(name)} is state number {len(self.names)}, and {limit} {most}"
+
+    def term_fault(self, line, found):
+        if len(found) != 4:
+            return f"a term has four fields, and this line has {len(found)}"
+        for directive in (b".i", b".o"):
+            if directive not in self.said:
+                return f"{quoted(directive)} has to stand before the first term"
+        fault = self.bits_fault(b".i", "input", found[0], b"01-") or self.bits_fault(b".o", "output", found[3], b"01")
+        fault = fault or self.name_fault(found[1]) or self.name_fault(found[2])
+        if fault:
+            return fault
+        self.terms.append((line, found))
+        count, most = len(self.terms), self.number(b".p", len(self.terms))
+        return None if count <= most else f"the term is number {count}, and `.p` says {most}"
+
+    def bits_fault(self, directive, what, bits, signs):
+        most = self.number(directive, 0)
+        if len(bits) != most:
+            return f"{quoted(directive)} says {counted(most, 'bit')}, the {what} has {len(bits)}"
+        if bits.strip(signs):
+            return f"the {what} {quoted(bits)} has other signs than {', '.join(signs.decode())}"
+        return None
+
+    def lacking(self):
+        """What the text lacks at its end."""
+        told = [f"The text has no {quoted(directive)}." for directive in (b".i", b".o") if directive not in self.said]
+        if not self.is_ended:
+            told.append("The text has no `.e`.")
+        if not self.terms:
+            told.append("The text has no term.")
+        for directive, what, there in ((b".p", "term", self.terms), (b".s", "state", self.names)):
+            said = self.number(directive, len(there))
+            if said != len(there):
+                told.append(f"{quoted(directive)} says {counted(said, what)}, and {len(there)} are there.")
+        return told
+
+    def numbered(self):
+        """The names of the states, in the order of their numbers."""
+        reset = [self.said[b".r"][1]] if b".r" in self.said else []
+        columns = [[found[place] for _, found in self.terms] for place in (1, 2)]
+        return list(dict.fromkeys(reset + columns[0] + columns[1]))
+
+    def contradicted(self):
+        """The earlier term that the last one contradicts, and the lowest input of both."""
+        _, (cube, state, *answer) = self.terms[-1]
+        for line, (other, current, *said) in self.terms[:-1]:
+            both = [one if two == ord("-") else two for one, two in zip(cube, other)]
+            meets = all(one in (bit, ord("-")) for one, bit in zip(cube, both))
+            if current == state and meets and said != answer:
+                return line, bytes(both).replace(b"-", b"0").decode()
+        raise Stopped("the last term contradicts none")
+
+
+def read_text(data, last=None):
+    """The text up to a line, and what is wrong about that one."""
+    text, fault = Kiss2(), None
+    for line, found in enumerate(map(fields_of, text_lines(data)[:last]), 1):
+        if found:
+            fault = text.fault(line, found)
+    return text, fault
+
+
 # ---- in words
 
 
@@ -573,6 +739,44 @@ def explain_unfit(number, values):
     ]
 
 
+def line_shown(data, line):
+    """A line of a text with its number, as much of it as a terminal shows on one."""
+    shown = text_lines(data)[line - 1].rstrip(b"\r")
+    return f"  {line}: {shown[:100].decode(errors='backslashreplace')}{' ...' if len(shown) > 100 else ''}"
+
+
+def explain_text(number, values, data):
+    """19, 20 and 21: the line or the state, and what is wrong about it."""
+    first = int(values[0])
+    if number == 21:
+        return [explain_incomplete(first, int(values[1]), read_text(data)[0])]
+    text, fault = read_text(data, first)
+    if number == 20:
+        earlier, bits = text.contradicted()
+        state = quoted(text.terms[-1][1][1])
+        told = f"Lines {earlier} and {first} answer otherwise in state {state} to the input {bits}:"
+        return [told, line_shown(data, earlier), line_shown(data, first)]
+    if first > len(text_lines(data)):
+        return text.lacking()
+    return [f"On line {first}, {fault}:", line_shown(data, first)]
+
+
+def explain_incomplete(state, number, text):
+    name = quoted(text.numbered()[state])
+    if all(found[1] != text.numbered()[state] for _, found in text.terms):
+        return f"State {state}, {name}, is no term's current state."
+    bits = f"{number:0{text.number(b'.i', 1)}b}"
+    return f"State {state}, {name}, has no term for the input {bits}."
+
+
+def explain_imported(words, data):
+    text, _ = read_text(data)
+    names = text.numbered()
+    inputs = counted(2 ** text.number(b".i", 0), "input")
+    lines = [f"The unit has {words[1]} bytes: {inputs} and {counted(len(names), 'state')}, by these names:"]
+    return lines + [f"  state {state}: {name.decode()}" for state, name in enumerate(names)]
+
+
 def explain_refusal(words, given):
     number, values = int(words[1]), words[2:]
     lines = [f"{REFUSALS[number]}: nothing is decided."]
@@ -586,6 +790,8 @@ def explain_refusal(words, given):
         return lines + [f"The output has to have {values[0]} bytes."]
     if given[0].letter == "U":
         return lines + explain_unfit(number, values)
+    if given[0].letter == "T":
+        return lines + explain_text(number, values, given[0].data)
     dossier = read_dossier(given[0].data)
     if number <= 11:
         return lines + explain_unsound(number, values, dossier)
@@ -665,6 +871,8 @@ def explain(words, given, written=b""):
         return explain_refusal(words, given)
     if said == "FOUND":
         return explain_found(words, read_dossier(written))
+    if said == "IMPORTED":
+        return explain_imported(words, given[0].data)
     if said in ("FAILS", "DEVIATES"):
         return explain_failing(words, given)
     if said == "DIFFERS":
@@ -917,12 +1125,22 @@ def flush_folder(folder):
             os.close(handle)
 
 
+def mend(text):
+    """The mended text. What was mended is said, whatever is answered then."""
+    better, told = mended(text)
+    for line in told:
+        complain(f"{text.name}, {line}")
+    return better
+
+
 def operate(options):
     names = [getattr(options, SORTS[letter][0]) for letter in options.letters]
     output = getattr(options, "output", None)
     given = read_all(options.letters, names)
     if output is not None:
         not_an_input(output, names)
+    if getattr(options, "mend", False):
+        given = [mend(given[0])]
     words, written = ask(options.operation, given, getattr(options, "bound", None), output is not None)
     lines = [" ".join(words)] + (explain(words, given, written) if options.explain else [])
     if output is not None and is_standard_output(output):
@@ -965,11 +1183,15 @@ OPERATIONS = {
     "judge": ("DS", "judges the recorded answers of a sheet, paired with the tests by their words"),
     "cost": ("D", "counts the tests and their inputs"),
     "find": ("U", "writes the dossier of a unit that is taken as golden, with cover and separating words and no tests yet"),
+    "import": ("T", "writes the unit file of a KISS2 text"),
 }
 
-EXITS = """exit status: 0 ACCEPTED, BUILT, PASSES, EQUAL, AGREES, FOUND or a cost; 1 FAILS, DIFFERS or DEVIATES; 2 a refusal;
-3 bad usage, a file that cannot be read or written, or any other trouble, said in one line. A file `-` is standard input; an
-output `-` is standard output, and the line then goes to standard error."""
+# The operations that write a file, and how it is named in their usage.
+OUTPUTS = {"build": "output", "find": "output", "import": "unit"}
+
+EXITS = """exit status: 0 ACCEPTED, BUILT, PASSES, EQUAL, AGREES, FOUND, IMPORTED or a cost; 1 FAILS, DIFFERS or DEVIATES; 2 a
+refusal; 3 bad usage, a file that cannot be read or written, or any other trouble, said in one line. A file `-` is standard
+input; an output `-` is standard output, and the line then goes to standard error."""
 
 
 class Parser(argparse.ArgumentParser):
@@ -1004,8 +1226,11 @@ def parser():
             command.add_argument(SORTS[letter][0])
         if name == "find":
             command.add_argument("--bound", type=bound_number, default=0, metavar="M", help="the m to write; without it 0")
-        if name in ("build", "find"):
-            command.add_argument("output")
+        if name in OUTPUTS:
+            command.add_argument("output", metavar=OUTPUTS[name])
+        if name == "import":
+            mending = "first add an .e that is lacking, and drop an .r that names no term's state"
+            command.add_argument("--mend", action="store_true", help=mending)
         command.add_argument("--explain", action="store_true", help="say in words what the answer means")
     command = add_command(commands, "show", "shows a dossier, a unit or a sheet as text", show)
     command.add_argument("file")

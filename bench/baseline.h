@@ -10,5 +10,6 @@ u64 baseline_run(const byte *dossier, size length, const byte *unit, size unit_l
 u64 baseline_compare(const byte *dossier, size length, const byte *unit, size unit_length, byte *out, size room);
 u64 baseline_judge(const byte *dossier, size length, const byte *sheet, size sheet_length);
 u64 baseline_find(const byte *unit, size unit_length, byte bound, byte *out, size room);
+u64 baseline_read_kiss2(const byte *text, size length, byte *out, size room);
 
 #endif

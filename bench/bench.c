@@ -1,9 +1,10 @@
 // Times the library against the C that was written by hand, on the dossiers that are named, their units, their sheets and their
-// goldens' bare tables. Both must answer alike and leave the same output.
+// goldens' bare tables and texts. Both must answer alike and leave the same output.
 //
-//   bench [NAME DOSSIER UNIT SHEET TABLE]...   a table: the operation, the name, the bytes of the dossier (for find, of the
-//                                              bare table), the code of the answer, the best time of each, the library's
-//                                              over C's; and one of the stack that the library takes
+//   bench [NAME DOSSIER UNIT SHEET TABLE TEXT]...   a table: the operation, the name, the bytes of the dossier (for find, of the
+//                                                   bare table, for read_kiss2 of the text), the code of the answer, the best
+//                                                   time of each, the library's over C's; and one of the stack that the library
+//                                                   takes
 #include "baseline.h"
 #include "stack.h"
 
@@ -29,7 +30,7 @@ struct file {
     size length;
 };
 
-static struct file dossier, unit, sheet, table;
+static struct file dossier, unit, sheet, table, text;
 static byte output[1 << 16], library_output[1 << 16];
 
 static u64 library_check(void) { return hegdorvin_check(dossier.bytes, dossier.length); }
@@ -56,7 +57,10 @@ static u64 c_judge(void) { return baseline_judge(dossier.bytes, dossier.length, 
 static u64 library_find(void) { return hegdorvin_find(table.bytes, table.length, 0, output, sizeof output); }
 static u64 c_find(void) { return baseline_find(table.bytes, table.length, 0, output, sizeof output); }
 
-static const char large[] = "built, 60 KB", hard[] = "hard table";
+static u64 library_read_kiss2(void) { return hegdorvin_read_kiss2(text.bytes, text.length, output, sizeof output); }
+static u64 c_read_kiss2(void) { return baseline_read_kiss2(text.bytes, text.length, output, sizeof output); }
+
+static const char large[] = "built, 60 KB", hard[] = "hard table", longest[] = "hard text";
 
 // An operation of the library, the same by hand, and the file that they are lent first; how the names begin of the dossiers for
 // which the library's time is limited as a multiple of C's; the most milliseconds for any; and the most bytes of stack that the
@@ -75,6 +79,7 @@ static struct timed {
     {"compare", {library_compare, c_compare}, &dossier, large, 5, 1000, 0},
     {"judge", {library_judge, c_judge}, &dossier, large, 3, 1000, 0},
     {"find", {library_find, c_find}, &table, hard, 2, 20, 0},
+    {"read_kiss2", {library_read_kiss2, c_read_kiss2}, &text, longest, 2, 5, 0},
 };
 
 enum { OPERATIONS = sizeof operations / sizeof *operations };
@@ -164,11 +169,12 @@ int main(int count, char **words)
 {
     int good = 1;
     printf("| operation | dossier | bytes | code | library, ms | C, ms | ratio |\n|---|---|---|---|---|---|---|\n");
-    for (int i = 1; i + 4 < count; i += 5) {
+    for (int i = 1; i + 5 < count; i += 6) {
         read_file(words[i + 1], &dossier);
         read_file(words[i + 2], &unit);
         read_file(words[i + 3], &sheet);
         read_file(words[i + 4], &table);
+        read_file(words[i + 5], &text);
         for (int j = 0; j < OPERATIONS; j++) {
             good &= time_operation(&operations[j], words[i]);
             measure_stack(&operations[j]);

@@ -33,10 +33,13 @@ enum {
     TOO_MANY_STATES,
     NO_ROOM,
     NOT_REDUCED,
+    BAD_LINE,
+    CONTRADICTION,
+    INCOMPLETE,
 };
 
 // What a refusal can concern.
-enum { DOSSIER = 1, UNIT, SHEET, OUTPUT, NUMBER = 6 };
+enum { DOSSIER = 1, UNIT, SHEET, OUTPUT, TEXT, NUMBER };
 
 // The place of the first word and how many there are.
 struct section {

@@ -1,10 +1,18 @@
-// From a bare table to a verdict: finds the words of document 01's golden G for m = 3, builds its tests, runs the unit V over
-// them, looks for the shortest word that tells the two apart, and judges what a bench recorded of G.
+// From a maker's text to a verdict: reads document 01's golden G from KISS2, finds its words for m = 3, builds its tests, runs
+// the unit V over them, looks for the shortest word that tells the two apart, and judges what a bench recorded of G.
 #include "hegdorvin.h"
 #include <stdio.h>
 
-// k, n; two entries (next state, output) for each state. The unit's table is laid out likewise.
-static const uint8_t table[] = {2, 0, 2, 2, 4, 0, 0, 0, 1, 0, 0, 1, 1, 0};
+static const char text[] = ".i 1\n"
+                           ".o 1\n"
+                           ".r low\n"
+                           "0 low low 0\n"
+                           "1 low high 0\n"
+                           "0 high low 1\n"
+                           "1 high high 0\n"
+                           ".e\n";
+
+// k, u; two entries (next state, output) for each state.
 static const uint8_t unit[] = {2, 0, 2, 3, 6, 0, 2, 0, 1, 0, 0, 1, 1, 0, 2, 0, 2, 0};
 
 // Six records in an order of the bench's own: 1110 answered 0 0 0 1, 000 answered 0 0 0, ...
@@ -26,8 +34,12 @@ static void print_word(const uint8_t *word, unsigned length)
 
 int main(void)
 {
-    uint8_t golden[65535], dossier[65535], word[127];
-    hegdorvin_answer found = hegdorvin_find(table, sizeof table, 3, golden, sizeof golden);
+    uint8_t table[2054], golden[65535], dossier[65535], word[127];
+    hegdorvin_answer imported = hegdorvin_read_kiss2((const uint8_t *)text, sizeof text - 1, table, sizeof table);
+    if (hegdorvin_code_of(imported) != HEGDORVIN_GOOD) return refused(imported);
+    printf("IMPORTED %u\n", hegdorvin_first(imported));
+
+    hegdorvin_answer found = hegdorvin_find(table, hegdorvin_first(imported), 3, golden, sizeof golden);
     if (hegdorvin_code_of(found) != HEGDORVIN_GOOD) return refused(found);
     printf("FOUND %u\n", hegdorvin_first(found));
 

@@ -44,6 +44,11 @@ hegdorvin_answer hegdorvin_cost(const uint8_t *dossier, size_t dossier_length);
  * lower of the two; second: the other. NO ROOM; first: the length needed. */
 hegdorvin_answer hegdorvin_find(const uint8_t *unit, size_t unit_length, uint8_t bound, uint8_t *output, size_t output_length);
 
+/* Reads a KISS2 text, as docs/KISS2.md has it, into a unit file. GOOD is IMPORTED; first: the length of the unit that was
+ * written. TOO LONG concerns the text. BAD LINE and CONTRADICTION; first: the line, counted from 1. INCOMPLETE; first: the
+ * state without a term, second: the input. NO ROOM; first: the length needed. */
+hegdorvin_answer hegdorvin_read_kiss2(const uint8_t *text, size_t text_length, uint8_t *output, size_t output_length);
+
 /* The code of an answer: GOOD, BAD, or the number of a refusal. */
 enum hegdorvin_code {
     HEGDORVIN_GOOD = 0,
@@ -65,6 +70,9 @@ enum hegdorvin_code {
     HEGDORVIN_TOO_MANY_STATES = 16,
     HEGDORVIN_NO_ROOM = 17,
     HEGDORVIN_NOT_REDUCED = 18,
+    HEGDORVIN_BAD_LINE = 19,
+    HEGDORVIN_CONTRADICTION = 20,
+    HEGDORVIN_INCOMPLETE = 21,
     HEGDORVIN_BAD = 31
 };
 
@@ -75,6 +83,7 @@ enum hegdorvin_file {
     HEGDORVIN_UNIT = 2,
     HEGDORVIN_SHEET = 3,
     HEGDORVIN_OUTPUT = 4,
+    HEGDORVIN_TEXT = 5,
     HEGDORVIN_NUMBER = 6 /* a number that was passed */
 };
 

@@ -15,6 +15,7 @@ pub mod files;
 pub mod find;
 pub mod generate;
 pub mod judge;
+pub mod kiss2;
 pub mod line;
 pub mod machine;
 pub mod needed;

@@ -8,6 +8,7 @@ use reference::compare::compared;
 use reference::cost::{cost, Cost};
 use reference::find::found_bytes;
 use reference::judge::{judge, JudgeAnswer};
+use reference::kiss2::imported_bytes;
 use reference::line::run_line;
 use reference::machine::{digits, Input};
 use reference::refusal::Refusal;
@@ -25,6 +26,7 @@ usage: reference run FOLDER             run FOLDER/unit over the tests of FOLDER
        reference judge DOSSIER SHEET    does the sheet hold the golden's answers?
        reference build DOSSIER OUT      write the dossier with new tests to the file OUT
        reference find UNIT BOUND OUT    write a dossier of the unit taken as golden to the file OUT
+       reference import TEXT OUT        write the unit of a KISS2 text to the file OUT
 ";
 
 fn main() -> ExitCode {
@@ -52,6 +54,9 @@ fn main() -> ExitCode {
             Some(bound) => write_file("FOUND", found_bytes(&bytes_of(unit), bound), out),
             None => wrong_usage(),
         },
+        (Some("import"), [text, out]) => {
+            write_file("IMPORTED", imported_bytes(&bytes_of(text)), out)
+        }
         _ => wrong_usage(),
     }
 }
@@ -82,9 +87,9 @@ fn judge_line(dossier: &[u8], sheet: &[u8]) -> Result<String, Refusal> {
     })
 }
 
-/// Writes a dossier to a file, which has room for any. A refusal leaves the file as it was.
-fn write_file(said: &str, dossier: Result<Vec<u8>, Refusal>, out: &Path) -> ExitCode {
-    let bytes = match dossier {
+/// Writes a dossier or a unit to a file, which has room for any. A refusal leaves the file as it was.
+fn write_file(said: &str, written: Result<Vec<u8>, Refusal>, out: &Path) -> ExitCode {
+    let bytes = match written {
         Ok(bytes) => bytes,
         Err(refusal) => return say_answer(Err(refusal)),
     };

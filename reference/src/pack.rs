@@ -9,11 +9,13 @@ use crate::compare::{compare as compare_unit, CompareAnswer};
 use crate::cost::{cost as cost_of, Cost};
 use crate::find::{find as find_words, Found};
 use crate::judge::{judge as judge_sheet, JudgeAnswer};
+use crate::kiss2::{read_kiss2 as import_text, Imported};
 use crate::machine::Input;
 use crate::refusal::{File, Refusal};
 use crate::run::{run as run_unit, RunAnswer};
 
-/// The code of ACCEPTED, BUILT, PASSES, EQUAL, AGREES, FOUND, a cost and a part of the dossier.
+/// The code of ACCEPTED, BUILT, PASSES, EQUAL, AGREES, FOUND, IMPORTED, a cost and a part of the
+/// dossier.
 const GOOD: u8 = 0;
 
 /// The code of FAILS, DIFFERS and DEVIATES.
@@ -87,6 +89,14 @@ pub fn find(unit: &[u8], bound: u8, output: &mut [u8]) -> u64 {
     }
 }
 
+/// Read KISS2: the length.
+pub fn read_kiss2(text: &[u8], output: &mut [u8]) -> u64 {
+    match import_text(text, output) {
+        Ok(Imported { length }) => values(GOOD, length, 0),
+        Err(refusal) => refused(&refusal),
+    }
+}
+
 /// An answer that is no refusal.
 fn values(code: u8, first: usize, second: usize) -> u64 {
     u64::from(code) | (first as u64) << 8 | (second as u64) << 32
@@ -115,6 +125,7 @@ fn file_code(file: File) -> u64 {
         File::Unit => 2,
         File::Sheet => 3,
         File::Output => 4,
+        File::Text => 5,
         File::Number => 6,
     }
 }
@@ -129,6 +140,8 @@ fn two_values(refusal: &Refusal) -> (usize, usize) {
         Refusal::Repeated { record } | Refusal::Foreign { record } => (*record, 0),
         Refusal::Absent { test } => (*test, 0),
         Refusal::NoRoom { needed } => (*needed, 0),
+        Refusal::BadLine { line } | Refusal::Contradiction { line } => (*line, 0),
+        Refusal::Incomplete { state, input } => (usize::from(state.0), usize::from(input.0)),
         other => (other.place().map_or(0, |place| place.byte), 0),
     }
 }

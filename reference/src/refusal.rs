@@ -1,6 +1,7 @@
-//! The refusals (document 01, section "Operations and answers"; 18 is of document 02, L1).
+//! The refusals (document 01, section "Operations and answers"; 18 is of document 02, L1,
+//! and 19 to 21 are of L2).
 
-use crate::machine::{digits, GoldenState, Word};
+use crate::machine::{digits, GoldenState, Input, UnitState, Word};
 use crate::sizes::MOST_DOSSIER_BYTES;
 use std::fmt;
 
@@ -11,6 +12,8 @@ pub enum File {
     Unit,
     Sheet,
     Output,
+    /// A KISS2 text.
+    Text,
     /// A number that was passed and stands in no file.
     Number,
 }
@@ -66,6 +69,17 @@ pub enum Refusal {
         first: GoldenState,
         second: GoldenState,
     },
+    /// Lines are counted from 1.
+    BadLine {
+        line: usize,
+    },
+    Contradiction {
+        line: usize,
+    },
+    Incomplete {
+        state: UnitState,
+        input: Input,
+    },
 }
 
 /// What NO ROOM names for any dossier over its size, whatever room there is.
@@ -74,7 +88,7 @@ pub const OVER_ITS_SIZE: Refusal = Refusal::NoRoom {
 };
 
 impl Refusal {
-    /// The number of the refusal, 1 to 18.
+    /// The number of the refusal, 1 to 21.
     pub fn number(&self) -> u8 {
         self.number_and_name().0
     }
@@ -104,6 +118,9 @@ impl Refusal {
             Refusal::TooManyStates => (16, "TOO MANY STATES"),
             Refusal::NoRoom { .. } => (17, "NO ROOM"),
             Refusal::NotReduced { .. } => (18, "NOT REDUCED"),
+            Refusal::BadLine { .. } => (19, "BAD LINE"),
+            Refusal::Contradiction { .. } => (20, "CONTRADICTION"),
+            Refusal::Incomplete { .. } => (21, "INCOMPLETE"),
         }
     }
 
@@ -130,6 +147,7 @@ impl Refusal {
             (None, 12..=14) => File::Sheet,
             (None, 15 | 16 | 18) => File::Unit,
             (None, 17) => File::Output,
+            (None, 19..=21) => File::Text,
             (None, _) => File::Dossier,
         }
     }
@@ -142,6 +160,7 @@ impl fmt::Display for File {
             File::Unit => "unit",
             File::Sheet => "sheet",
             File::Output => "output",
+            File::Text => "text",
             File::Number => "number",
         })
     }
@@ -172,6 +191,12 @@ impl fmt::Display for Refusal {
             }
             Refusal::Absent { test } => write!(to, ", test {test}"),
             Refusal::NoRoom { needed } => write!(to, ", length needed {needed}"),
+            Refusal::BadLine { line } | Refusal::Contradiction { line } => {
+                write!(to, ", line {line}")
+            }
+            Refusal::Incomplete { state, input } => {
+                write!(to, ", state {}, input {}", state.0, input.0)
+            }
             _ => match self.place() {
                 Some(place) => write!(to, ", byte {}", place.byte),
                 None => Ok(()),

@@ -1,4 +1,4 @@
-//! The limits of document 01, section "Sizes".
+//! The limits of document 01, section "Sizes", and of document 02.
 
 /// The most inputs, k.
 pub const MOST_INPUTS: u8 = 16;
@@ -20,6 +20,17 @@ pub const MOST_DOSSIER_BYTES: usize = 65_535;
 
 /// The most bytes of a sheet.
 pub const MOST_SHEET_BYTES: usize = 131_070;
+
+/// The most bytes of a KISS2 text (document 02, L2).
+pub const MOST_TEXT_BYTES: usize = 65_535;
+
+/// The most bits of a text's inputs, and of its outputs.
+pub const MOST_INPUT_BITS: usize = 4;
+pub const MOST_OUTPUT_BITS: usize = 8;
+
+/// The most bytes of a state's name in a text, and the most digits of a number.
+pub const LONGEST_NAME: usize = 16;
+pub const LONGEST_NUMBER: usize = 9;
 
 /// The highest bound for so many states.
 pub fn highest_bound(states: u8) -> u8 {

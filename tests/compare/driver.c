@@ -106,7 +106,7 @@ static byte *place(struct lent *lent)
     return lent->length == 0 ? 0 : lent->bytes + GUARD;
 }
 
-enum { CHECK, BUILD, RUN, COST, COMPARE, JUDGE, JUDGE_WORD, FIND };
+enum { CHECK, BUILD, RUN, COST, COMPARE, JUDGE, JUDGE_WORD, FIND, READ_KISS2 };
 
 static u64 call(u32 operation, byte number)
 {
@@ -120,6 +120,7 @@ static u64 call(u32 operation, byte number)
     case JUDGE: return hegdorvin_judge(place(&first), first.length, place(&second), second.length);
     case JUDGE_WORD: return hegdorvin_judge_word(place(&first), first.length, place(&second), second.length);
     case FIND: return hegdorvin_find(place(&first), first.length, number, place(&output), output.length);
+    case READ_KISS2: return hegdorvin_read_kiss2(place(&first), first.length, place(&output), output.length);
     default: exit(3);
     }
 }
@@ -127,11 +128,18 @@ static u64 call(u32 operation, byte number)
 #ifdef WRONG
 enum { BOUND_PLACE = 4 };
 
+// Whether an operation is one that the wrong library is wrong at.
+static int is_wrong(u32 operation)
+{
+    if (WRONG < 7) return 1;
+    return operation == (WRONG < 9 ? BUILD : WRONG < 12 ? FIND : READ_KISS2);
+}
+
 // The byte that a wrong library could change, or none where this call has no such byte.
 static byte *spoilt_byte(u32 operation, byte number, u64 answer)
 {
     size written = (answer & 31) == 0 ? answer >> 8 & 0xFFFFFF : 0;
-    if (WRONG >= 7 && operation != (WRONG < 9 ? BUILD : FIND)) return 0;
+    if (!is_wrong(operation)) return 0;
     switch (WRONG) {
     case 2: return place(&first);
     case 3: return first.bytes + GUARD + first.length;
@@ -139,9 +147,11 @@ static byte *spoilt_byte(u32 operation, byte number, u64 answer)
     case 5: return output.bytes + GUARD - 1;
     case 6: return output.bytes + GUARD + output.length;
     case 7:
-    case 9: return written == 0 ? place(&output) : 0;
+    case 9:
+    case 12: return written == 0 ? place(&output) : 0;
     case 8:
-    case 10: return 0 < written && written < output.length ? output.bytes + GUARD + written : 0;
+    case 10:
+    case 13: return 0 < written && written < output.length ? output.bytes + GUARD + written : 0;
     case 11: return written != 0 && number == 0 ? output.bytes + GUARD + BOUND_PLACE : 0;
     default: return 0;
     }
@@ -149,7 +159,8 @@ static byte *spoilt_byte(u32 operation, byte number, u64 answer)
 
 // What a wrong library could do, now and then: 1 answers otherwise; 2 changes the first file, 3 the byte after it, 4 the
 // second file, 5 the byte before the output, 6 the byte after it, 7 the output of a refused build, 8 the byte after a built
-// dossier, 9 the output of a refused find, 10 the byte after a found dossier, 11 the default bound in a found dossier.
+// dossier, 9 the output of a refused find, 10 the byte after a found dossier, 11 the default bound in a found dossier, 12 the
+// output of a text that is refused, 13 the byte after the unit of a text.
 static u64 spoilt(u32 operation, byte number, u64 answer)
 {
     static u32 calls;

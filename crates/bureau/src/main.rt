@@ -1,11 +1,13 @@
-// The bureau's program: `check D`, `build D OUT`, `run D U`, `compare D U`, `judge D S`, `cost D` and `find U BOUND OUT`, with
-// the names of files and a number. It reads them, asks for the line of the operation, and prints it (docs/LINES.md).
+// The bureau's program: `check D`, `build D OUT`, `run D U`, `compare D U`, `judge D S`, `cost D`, `find U BOUND OUT` and
+// `import T U`, with the names of files and a number. It reads them, asks for the line of the operation, and prints it
+// (docs/LINES.md).
 use bureau_lines::BuiltLine;
 use bureau_lines::build_line;
 use bureau_lines::check_line;
 use bureau_lines::compare_line;
 use bureau_lines::cost_line;
 use bureau_lines::find_line;
+use bureau_lines::import_line;
 use bureau_lines::trial_line;
 use bureau_sheets::judge_line;
 use libc::STDOUT_FILENO;
@@ -115,7 +117,7 @@ fn print_judge() {
     print(judge_line(&dossier[..d], &sheet[..s]));
 }
 
-// A file is made only where there is a dossier to put there, and the line is printed once the file has it.
+// A file is made only where there is a dossier or a unit to put there, and the line is printed once the file has it.
 fn print_written(written: BuiltLine, argument: usize, out: &[u8])
     requires { ⌜ written .length ≤ length (now out) ⌝ }
     requires { ⌜ (written .line .length ≤ lineRoom) × (length (written .line .bytes) ≡ lineRoom) ⌝ }
@@ -145,6 +147,14 @@ fn print_find(bound: u8) {
     let u = load(2, &mut unit);
     let found = find_line(&unit[..u], bound, &mut out);
     print_written(found, 4, &out);
+}
+
+fn print_import() {
+    let mut text = io::large_buffer();
+    let mut out = built_buffer();
+    let t = load(2, &mut text);
+    let imported = import_line(&text[..t], &mut out);
+    print_written(imported, 3, &out);
 }
 
 // The bound that a number becomes with one more digit behind it.
@@ -190,7 +200,7 @@ fn bound_given(digits: &[u8]) -> Given
 fn print_usage() {
     io::write_all(
         STDOUT_FILENO,
-        b"usage: bureau check D | build D OUT | run D U | compare D U | judge D S | cost D | find U BOUND OUT\n",
+        b"usage: bureau check D | build D OUT | run D U | compare D U | judge D S | cost D | find U BOUND OUT | import T U\n",
     );
 }
 
@@ -215,6 +225,8 @@ fn print_of_two(operation: &[u8]) {
         print_compare();
     } else if same_text(operation, b"judge") {
         print_judge();
+    } else if same_text(operation, b"import") {
+        print_import();
     } else {
         print_usage();
     }

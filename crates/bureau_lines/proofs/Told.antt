@@ -11,6 +11,7 @@ use lib.Seq.{take-at}
 use Rattle.rules.specs.declared.Refusal.{Refusal}
 use Rattle.rules.specs.declared.Built.the-variants.{Written, Refused as BuildRefused}
 use Rattle.rules.specs.declared.Found.the-variants.{Written as FoundWritten, Refused as FindRefused}
+use Rattle.rules.specs.declared.Imported.the-variants.{Written as ImportWritten, Refused as ImportRefused}
 use Rattle.rules.specs.declared.Ran.{Ran}
 use Rattle.rules.specs.declared.Ran.the-variants.{Passes, Fails, Refused as RunRefused}
 use Rattle.rules.specs.declared.Compared.{Compared}
@@ -19,6 +20,7 @@ use Rattle.rules.specs.Words.{Word, Valid}
 use Rattle.rules.specs.Answers.{Said}
 use Rattle.rules.specs.Operations.{Outcome, fine, refuse, build, overwritten, Trial, run, failingOf, verdict, runAnswer, compare, comparison, compareAnswer, answered}
 use Rattle.rules.specs.Find.{find}
+use Rattle.rules.specs.Kiss2.{readKiss2}
 use Rattle.rules.specs.Promises.{ComparePromise}
 use Rattle.rules.specs.Line.{text, decimal, line, runLine}
 use Rattle.theory.specs.Answers.{compare-answer}
@@ -32,7 +34,7 @@ use Rattle.line.proofs.Failing.{valid-wider}
 use Rattle.bureau_refusals.specs.Values.{spelled, refusedLine}
 use Rattle.line.specs.Lines.{Says}
 use Rattle.bureau_lines.specs.declared.BuiltLine.{BuiltLine}
-use Rattle.bureau_lines.specs.Lines.{builtLength, BuildLinePromise, foundLength, FindLinePromise, trialLine, tellingRoom, comparedLine, compareLine}
+use Rattle.bureau_lines.specs.Lines.{builtLength, BuildLinePromise, foundLength, FindLinePromise, importedLength, ImportLinePromise, trialLine, tellingRoom, comparedLine, compareLine}
 
 -- an answer r, which is v
 module _ {A : Type 0} {r v : A} (is : r ≡ v) where
@@ -140,3 +142,7 @@ built-inside {s} {out} {left} {r} promise =
 pub found-inside : {s : List ℕ} {bound : ℕ} {out left : List ℕ} {r : BuiltLine} → FindLinePromise s bound out r left → r .length ≤ length left
 found-inside {s} {bound} {out} {left} {r} promise =
     rw (promise .length, promise .output) (written-inside FoundWritten FindRefused foundLength (λ n. refl) (λ f. refl) (find s bound out) out)
+
+pub imported-inside : {s out left : List ℕ} {r : BuiltLine} → ImportLinePromise s out r left → r .length ≤ length left
+imported-inside {s} {out} {left} {r} promise =
+    rw (promise .length, promise .output) (written-inside ImportWritten ImportRefused importedLength (λ n. refl) (λ f. refl) (readKiss2 s out) out)

@@ -12,9 +12,12 @@ use Rattle.rules.specs.declared.Costed.{Costed}
 use Rattle.rules.specs.declared.Costed.the-variants.{Cost, Refused as CostRefused}
 use Rattle.rules.specs.declared.Found.{Found}
 use Rattle.rules.specs.declared.Found.the-variants.{Written as FoundWritten, Refused as FindRefused}
+use Rattle.rules.specs.declared.Imported.{Imported}
+use Rattle.rules.specs.declared.Imported.the-variants.{Written as ImportWritten, Refused as ImportRefused}
 use Rattle.rules.specs.Words.{Word}
 use Rattle.rules.specs.Operations.{checkAnswer, buildAnswer, buildOutput, run, failingOf, compare, costAnswer, answered}
 use Rattle.rules.specs.Find.{findAnswer, findOutput}
+use Rattle.rules.specs.Kiss2.{readKiss2Answer, readKiss2Output}
 use Rattle.rules.specs.Line.{text, decimal, line, verdictLine}
 use Rattle.bureau_refusals.specs.Values.{spelled, refusedLine}
 use Rattle.line.specs.Lines.{Says}
@@ -66,6 +69,22 @@ pub record FindLinePromise (unitFile : List ℕ) (bound : ℕ) (out : List ℕ) 
   pub says : Says (foundLine (findAnswer unitFile bound out)) (r .line)
   pub length : r .length ≡ foundLength (findAnswer unitFile bound out)
   pub output : left ≡ findOutput unitFile bound out
+
+-- the length of the unit that was written
+abbrev pub importedLine : Imported → List ℕ
+importedLine (ImportWritten n) = line (text "IMPORTED" ∷ decimal n ∷ [])
+importedLine (ImportRefused r) = refusedLine r
+
+-- how many bytes were written
+abbrev pub importedLength : Imported → ℕ
+importedLength (ImportWritten n) = n
+importedLength (ImportRefused r) = 0
+
+-- the answer's line and length, and the output as the import leaves it
+pub record ImportLinePromise (textFile out : List ℕ) (r : BuiltLine) (left : List ℕ) : Type 0 where
+  pub says : Says (importedLine (readKiss2Answer textFile out)) (r .line)
+  pub length : r .length ≡ importedLength (readKiss2Answer textFile out)
+  pub output : left ≡ readKiss2Output textFile out
 
 -- PASSES and FAILS as the program `run` prints them
 unfoldable pub trialLine : List ℕ → List ℕ → List ℕ

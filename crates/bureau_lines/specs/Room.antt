@@ -13,6 +13,7 @@ use Rattle.rules.specs.Files.{golden, unit}
 use Rattle.rules.specs.Reading.{Reader, dossier, unitTable}
 use Rattle.rules.specs.Operations.{refuse, readFile, build, compare}
 use Rattle.rules.specs.Find.{find}
+use Rattle.rules.specs.Kiss2.{readKiss2}
 use Rattle.theory.specs.Outcomes.{read-refuses}
 use Rattle.theory.specs.Files.{dossier-sized, unit-sized}
 use Rattle.theory.specs.Machines.{golden-complete}
@@ -20,6 +21,9 @@ use Rattle.theory.specs.Sound.{seven, eight, nine, ten}
 use Rattle.theory.specs.Build
 use Rattle.theory.specs.Build.{BuildRefuses, build-refuses}
 use Rattle.theory.specs.FoundSize.{find-never-over}
+use Rattle.theory.specs.Kiss2
+use Rattle.theory.specs.Kiss2.{saidIn, ImportRefuses, import-refuses}
+use Rattle.theory.specs.Kiss2Units.{said-small, good-text-read}
 use Rattle.theory.specs.Compare
 use Rattle.theory.specs.Compare.{CompareRefuses, telling-short, compare-refuses}
 use Rattle.bureau_lines.specs.Lines.{tellingRoom}
@@ -63,3 +67,15 @@ pub find-has-room : (unitFile : List ℕ) (bound : ℕ) (out : List ℕ) (n : �
 find-has-room s bound out n long e =
     let (u, d, drafts, short, is, small) = find-never-over s bound out n e in
     omega (arith, short, is, small, long)
+
+-- A unit has at most 2,054 bytes, so the import never answers 17.
+pub import-has-room : (textFile out : List ℕ) (n : ℕ) → length out ≡ mostDossierBytes → readKiss2 textFile out ≢ refuse (NoRoom n)
+import-has-room s out n long e = go (import-refuses s out (NoRoom n) .0 e)
+  where
+    go : ImportRefuses s out (NoRoom n) → ⊥
+    go (Kiss2.one over is) = let z : _≡_ {A = ℕ} 0 1 = cc in omega arith
+    go (Kiss2.nineteen short i good bad is) = let z : _≡_ {A = ℕ} 0 1 = cc in omega arith
+    go (Kiss2.twenty short i good placed against is) = let z : _≡_ {A = ℕ} 0 1 = cc in omega arith
+    go (Kiss2.lacking short good lacks is) = let z : _≡_ {A = ℕ} 0 1 = cc in omega arith
+    go (Kiss2.twenty-one short good whole q i low is) = let z : _≡_ {A = ℕ} 0 1 = cc in omega arith
+    go (Kiss2.no-room g tight is) = omega (arith, tight, said-small (saidIn s) (good-text-read s g) (g .whole), long)

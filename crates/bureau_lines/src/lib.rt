@@ -6,6 +6,7 @@ use bureau_refusals::refused_line;
 use checker::check;
 use comparer::compare;
 use finder::find;
+use importer::read_kiss2;
 use line::Line;
 use line::run_line;
 use plain::number_line;
@@ -17,14 +18,15 @@ use rules::Checked;
 use rules::Compared;
 use rules::Costed;
 use rules::Found;
+use rules::Imported;
 use rules::Ran;
 use runner::cost;
 use runner::run;
 ghost use mathlib.Core.Path.{_≡_};
 ghost use Rattle.line.specs.Lines.{Says};
-ghost use Rattle.bureau_lines.specs.Lines.{checkLine, costLine, BuildLinePromise, FindLinePromise, trialLine, tellingRoom, compareLine};
+ghost use Rattle.bureau_lines.specs.Lines.{checkLine, costLine, BuildLinePromise, FindLinePromise, ImportLinePromise, trialLine, tellingRoom, compareLine};
 
-// The line of build or of find, and how many bytes of its output it wrote: none where it refuses.
+// The line of build, find or the import, and how many bytes of its output it wrote: none where it refuses.
 pub struct BuiltLine {
     pub line: Line,
     pub length: usize,
@@ -72,6 +74,21 @@ pub fn find_line(unit: &[u8], bound: u8, out: &mut [u8]) -> BuiltLine
             length,
         },
         Found::Refused(r) => BuiltLine {
+            line: refused_line(r),
+            length: 0,
+        },
+    }
+}
+
+pub fn import_line(text: &[u8], out: &mut [u8]) -> BuiltLine
+    ensures { λ r. ⌜ ImportLinePromise (now (text .entry)) (now (out .entry)) r (now (out .exit)) ⌝ }
+{
+    match read_kiss2(text, out) {
+        Imported::Written(length) => BuiltLine {
+            line: number_line(b"IMPORTED", length),
+            length,
+        },
+        Imported::Refused(r) => BuiltLine {
             line: refused_line(r),
             length: 0,
         },

@@ -4,7 +4,7 @@ use mathlib.Core.List.{List, [], _∷_, _++_}
 use lib.ListN.{take}
 use Rattle.rules.specs.declared.Middle.{Middle}
 use Rattle.rules.specs.declared.Refusal.{Refusal}
-use Rattle.rules.specs.declared.Refusal.the-variants.{Malformed, NoEmptyWord, Unreached, NoSeparator, NotSeparated, Missing, Repeated, Foreign, Absent, OtherInputs, TooManyStates, NoRoom, NotReduced}
+use Rattle.rules.specs.declared.Refusal.the-variants.{Malformed, NoEmptyWord, Unreached, NoSeparator, NotSeparated, Missing, Repeated, Foreign, Absent, OtherInputs, TooManyStates, NoRoom, NotReduced, BadLine, Contradiction, Incomplete}
 use Rattle.rules.specs.Words.{Word}
 use Rattle.rules.specs.Answers.{numberOf}
 use Rattle.rules.specs.Line.{text, decimal, hex, line, letter}
@@ -36,6 +36,9 @@ valueWords OtherInputs = []
 valueWords TooManyStates = []
 valueWords (NoRoom n) = decimal n ∷ []
 valueWords (NotReduced p q) = decimal (p .0) ∷ decimal (q .0) ∷ []
+valueWords (BadLine n) = decimal n ∷ []
+valueWords (Contradiction n) = decimal n ∷ []
+valueWords (Incomplete q i) = decimal (q .0) ∷ decimal (i .0) ∷ []
 
 unfoldable pub refusedLine : Refusal → List ℕ
 refusedLine r = line (text "REFUSED" ∷ decimal (numberOf r) ∷ valueWords r)

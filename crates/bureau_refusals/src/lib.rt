@@ -109,6 +109,9 @@ fn put_values(r: Refusal, out: &mut [u8], at: usize) -> usize
         Refusal::TooManyStates => put_line_feed(out, at),
         Refusal::NoRoom(needed) => put_last(needed, out, at),
         Refusal::NotReduced(p, q) => put_two(p.number() as usize, q.number() as usize, out, at),
+        Refusal::BadLine(line) => put_last(line, out, at),
+        Refusal::Contradiction(line) => put_last(line, out, at),
+        Refusal::Incomplete(q, i) => put_two(q.number() as usize, i.number() as usize, out, at),
     }
 }
 

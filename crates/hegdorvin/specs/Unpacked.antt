@@ -15,11 +15,12 @@ use Rattle.rules.specs.declared.Compared.{Compared}
 use Rattle.rules.specs.declared.Judged.{Judged}
 use Rattle.rules.specs.declared.Costed.{Costed}
 use Rattle.rules.specs.declared.Found.{Found}
-use Rattle.rules.specs.Answers.{Said, well, checkSays, buildSays, runSays, compareSays, judgeSays, costSays, findSays}
+use Rattle.rules.specs.declared.Imported.{Imported}
+use Rattle.rules.specs.Answers.{Said, well, checkSays, buildSays, runSays, compareSays, judgeSays, costSays, findSays, importSays}
 use Rattle.rules.specs.Operations.{Part, partOf, judgedPart}
-use Rattle.rules.specs.Promises.{CheckPromise, BuildPromise, RunPromise, ComparePromise, JudgePromise, JudgeWordPromise, CostPromise, FindPromise}
-use Rattle.theory.specs.Answers.{value, checkSaid, check-said, buildSaid, build-said, runSaid, run-said, compareSaid, compare-said, judgeSaid, judge-said, costSaid, cost-said, findSaid, find-said}
-use Rattle.theory.specs.Bounds.{Fits, PlainFits, MissingFits, check-fits, build-fits, run-fits, compare-fits, judge-fields-fit, judged-part-fits, cost-fits, find-fits}
+use Rattle.rules.specs.Promises.{CheckPromise, BuildPromise, RunPromise, ComparePromise, JudgePromise, JudgeWordPromise, CostPromise, FindPromise, ReadKiss2Promise}
+use Rattle.theory.specs.Answers.{value, checkSaid, check-said, buildSaid, build-said, runSaid, run-said, compareSaid, compare-said, judgeSaid, judge-said, costSaid, cost-said, findSaid, find-said, importSaid, import-said}
+use Rattle.theory.specs.Bounds.{Fits, PlainFits, MissingFits, check-fits, build-fits, run-fits, compare-fits, judge-fields-fit, judged-part-fits, cost-fits, find-fits, import-fits}
 use Rattle.hegdorvin_packing.specs.Packed.{packedPlain, packedMissing, packed}
 
 -- the values in a packed MISSING, in the order of the paper
@@ -140,6 +141,9 @@ made-cost s t h = rw (h .number, h .file, h .values 0, h .values 1, h .values 2,
 made-find : Made findSaid
 made-find s t h = rw (h .number, h .file, h .values 0, h .values 1, h .values 2, h .values 3, h .values 4, h .values 5, h .values 6, h .values 7)
 
+made-import : Made importSaid
+made-import s t h = rw (h .number, h .file, h .values 0, h .values 1, h .values 2, h .values 3, h .values 4, h .values 5, h .values 6, h .values 7)
+
 -- Unpacking a packed answer gives the answer back, for every answer that the promise allows.
 pub check-unpacks : (bytes : List ℕ) (r : Checked) → CheckPromise bytes r → checkSaid (unpacked (packed (checkSays r))) ≡ r
 check-unpacks bytes r promise = back checkSays checkSaid check-said made-check r (check-fits bytes r promise)
@@ -172,3 +176,6 @@ cost-unpacks bytes r promise = back costSays costSaid cost-said made-cost r (cos
 
 pub find-unpacks : (unit : List ℕ) (bound : ℕ) (out : List ℕ) (r : Found) (left : List ℕ) → FindPromise unit bound out r left → findSaid (unpacked (packed (findSays r))) ≡ r
 find-unpacks unit bound out r left promise = back findSays findSaid find-said made-find r (find-fits unit bound out r left promise)
+
+pub import-unpacks : (text out : List ℕ) (r : Imported) (left : List ℕ) → ReadKiss2Promise text out r left → importSaid (unpacked (packed (importSays r))) ≡ r
+import-unpacks text out r left promise = back importSays importSaid import-said made-import r (import-fits text out r left promise)

@@ -8,18 +8,21 @@ use hegdorvin_packing::checked;
 use hegdorvin_packing::compared;
 use hegdorvin_packing::costed;
 use hegdorvin_packing::found;
+use hegdorvin_packing::imported;
 use hegdorvin_packing::judged;
 use hegdorvin_packing::part;
 use hegdorvin_packing::ran;
+use importer::read_kiss2;
 use judge::failing_part;
 use judge::judge;
 use runner::cost;
 use runner::run;
 ghost use mathlib.Core.Path.{_≡_};
 ghost use mathlib.Core.List.{[], _∷_};
-ghost use Rattle.rules.specs.Answers.{well, checkSays, buildSays, runSays, compareSays, judgeSays, costSays, findSays};
+ghost use Rattle.rules.specs.Answers.{well, checkSays, buildSays, runSays, compareSays, judgeSays, costSays, findSays, importSays};
 ghost use Rattle.rules.specs.Operations.{checkAnswer, buildAnswer, buildOutput, runAnswer, compareAnswer, compareOutput, judgeAnswer, judgedPart, costAnswer};
 ghost use Rattle.rules.specs.Find.{findAnswer, findOutput};
+ghost use Rattle.rules.specs.Kiss2.{readKiss2Answer, readKiss2Output};
 ghost use Rattle.hegdorvin_packing.specs.Packed.{packed};
 
 #[no_mangle]
@@ -78,4 +81,11 @@ pub extern "C" fn hegdorvin_find(unit: &[u8], bound: u8, out: &mut [u8]) -> u64
     ensures { λ r. ⌜ (r ≡ packed (findSays (findAnswer (now (unit .entry)) bound (now (out .entry))))) × (now (out .exit) ≡ findOutput (now (unit .entry)) bound (now (out .entry))) ⌝ }
 {
     found(find(unit, bound, out))
+}
+
+#[no_mangle]
+pub extern "C" fn hegdorvin_read_kiss2(text: &[u8], out: &mut [u8]) -> u64
+    ensures { λ r. ⌜ (r ≡ packed (importSays (readKiss2Answer (now (text .entry)) (now (out .entry))))) × (now (out .exit) ≡ readKiss2Output (now (text .entry)) (now (out .entry))) ⌝ }
+{
+    imported(read_kiss2(text, out))
 }

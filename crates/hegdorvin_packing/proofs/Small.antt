@@ -10,14 +10,14 @@ use Rattle.rules.specs.declared.Fault.{Fault}
 use Rattle.rules.specs.declared.Fault.the-variants.{TooLong, CutShort, BadNumbers, BadTable, BadWord, Trailing}
 use Rattle.rules.specs.declared.Middle.{Middle}
 use Rattle.rules.specs.declared.Refusal.{Refusal}
-use Rattle.rules.specs.declared.Refusal.the-variants.{Malformed, NoEmptyWord, Unreached, NoSeparator, NotSeparated, Missing, Repeated, Foreign, Absent, OtherInputs, TooManyStates, NoRoom, NotReduced}
+use Rattle.rules.specs.declared.Refusal.the-variants.{Malformed, NoEmptyWord, Unreached, NoSeparator, NotSeparated, Missing, Repeated, Foreign, Absent, OtherInputs, TooManyStates, NoRoom, NotReduced, BadLine, Contradiction, Incomplete}
 use Rattle.rules.specs.Answers.{faultNumber, numberOf, refusing}
 use Rattle.rules.proofs.Refusal.{the-type}
 use Rattle.theory.specs.Bounds.{Fits, SmallRefusal}
 
 -- all cases of the enum but MISSING, which is the sixth
 abbrev others : List ℕ
-others = 0 ∷ 1 ∷ 2 ∷ 3 ∷ 4 ∷ 6 ∷ 7 ∷ 8 ∷ 9 ∷ 10 ∷ 11 ∷ 12 ∷ []
+others = 0 ∷ 1 ∷ 2 ∷ 3 ∷ 4 ∷ 6 ∷ 7 ∷ 8 ∷ 9 ∷ 10 ∷ 11 ∷ 12 ∷ 13 ∷ 14 ∷ 15 ∷ []
 
 fault-plain : (f : Fault) → faultNumber f ≢ 11
 fault-plain TooLong e = omega arith
@@ -41,6 +41,9 @@ plain-number OtherInputs other = λ e. omega arith
 plain-number TooManyStates other = λ e. omega arith
 plain-number (NoRoom n) other = λ e. omega arith
 plain-number (NotReduced p q) other = λ e. omega arith
+plain-number (BadLine n) other = λ e. omega arith
+plain-number (Contradiction n) other = λ e. omega arith
+plain-number (Incomplete q i) other = λ e. omega arith
 
 pub missing-small : (c : ℕ) (y : Middle) (s : ℕ) → Fits (refusing (Missing c y s)) → SmallRefusal (Missing c y s)
 missing-small c y s fits =

@@ -6,6 +6,7 @@ use rules::Checked;
 use rules::Compared;
 use rules::Costed;
 use rules::Found;
+use rules::Imported;
 use rules::Judged;
 use rules::Middle;
 use rules::Ran;
@@ -13,7 +14,7 @@ use rules::Refusal;
 ghost use mathlib.Core.Path.{_≡_};
 ghost use mathlib.Core.List.{[], _∷_};
 ghost use Prim.Native.Nat.{_+_, _*_, _<_};
-ghost use Rattle.rules.specs.Answers.{well, refusing, checkSays, buildSays, runSays, compareSays, judgeSays, costSays, findSays};
+ghost use Rattle.rules.specs.Answers.{well, refusing, checkSays, buildSays, runSays, compareSays, judgeSays, costSays, findSays, importSays};
 ghost use Rattle.rules.specs.declared.Refusal.the-variants.{Missing};
 ghost use Rattle.theory.specs.Bounds.{Fits, SmallRefusal};
 ghost use Rattle.hegdorvin_packing.specs.Packed.{packed};
@@ -150,5 +151,15 @@ pub fn found(r: Found) -> u64
     match r {
         Found::Written(n) => plain(0, 0, n, 0),
         Found::Refused(x) => refusal(x),
+    }
+}
+
+pub fn imported(r: Imported) -> u64
+    requires { ⌜ Fits (importSays r) ⌝ }
+    ensures { λ n. ⌜ n ≡ packed (importSays r) ⌝ }
+{
+    match r {
+        Imported::Written(n) => plain(0, 0, n, 0),
+        Imported::Refused(x) => refusal(x),
     }
 }

@@ -7,7 +7,7 @@ use denote.Enum.Declared.{tagOf}
 use Rattle.rules.specs.declared.File.{File}
 use Rattle.rules.specs.declared.Fault.{Fault}
 use Rattle.rules.specs.declared.Refusal.{Refusal}
-use Rattle.rules.specs.declared.Refusal.the-variants.{Malformed, NoEmptyWord, Unreached, NoSeparator, NotSeparated, Missing, Repeated, Foreign, Absent, OtherInputs, TooManyStates, NoRoom, NotReduced}
+use Rattle.rules.specs.declared.Refusal.the-variants.{Malformed, NoEmptyWord, Unreached, NoSeparator, NotSeparated, Missing, Repeated, Foreign, Absent, OtherInputs, TooManyStates, NoRoom, NotReduced, BadLine, Contradiction, Incomplete}
 use Rattle.rules.specs.Answers.{numberOf}
 use Rattle.rules.specs.Line.{text, decimal, letter, spot, refusalLine}
 use Rattle.rules.proofs.Refusal.{the-type}
@@ -16,7 +16,7 @@ use Rattle.line_writer.proofs.Lines.{feed-closes, next-closes, first-closes}
 
 -- all refusals but the first case of the enum
 abbrev others : List ℕ
-others = 1 ∷ 2 ∷ 3 ∷ 4 ∷ 5 ∷ 6 ∷ 7 ∷ 8 ∷ 9 ∷ 10 ∷ 11 ∷ 12 ∷ []
+others = 1 ∷ 2 ∷ 3 ∷ 4 ∷ 5 ∷ 6 ∷ 7 ∷ 8 ∷ 9 ∷ 10 ∷ 11 ∷ 12 ∷ 13 ∷ 14 ∷ 15 ∷ []
 
 pub no-spot : (r : Refusal) → OneOf others (tagOf the-type r) → spot r ≡ []
 no-spot (Malformed fault f p) other = absurd (miss others _ tt other)
@@ -32,6 +32,9 @@ no-spot OtherInputs other = refl
 no-spot TooManyStates other = refl
 no-spot (NoRoom n) other = refl
 no-spot (NotReduced p q) other = refl
+no-spot (BadLine n) other = refl
+no-spot (Contradiction n) other = refl
+no-spot (Incomplete q i) other = refl
 
 -- `REFUSED` and the number n have been written
 module _ (r : Refusal) (n : ℕ) (number : n ≡ numberOf r) (out said numbered last : List ℕ) (p q a b : ℕ)

@@ -23,6 +23,7 @@ fn initial(file: File) -> u8
         File::Sheet => b'S',
         File::Output => b'O',
         File::Number => b'N',
+        File::Text => b'T',
     }
 }
 

@@ -53,5 +53,13 @@ pub fn said(r: Refusal) -> Saying
             one.number() as usize,
             other.number() as usize,
         ),
+        Refusal::BadLine(line) => says(19, File::Text, line, 0),
+        Refusal::Contradiction(line) => says(20, File::Text, line, 0),
+        Refusal::Incomplete(state, input) => says(
+            21,
+            File::Text,
+            state.number() as usize,
+            input.number() as usize,
+        ),
     }
 }

@@ -1,4 +1,4 @@
--- Document 01, the table of refusals, with 18 of document 02, L1; and "If an answer is an enum, a definition states this paper's
+-- Document 01, the table of refusals, with 18 to 21 of document 02, L1 and L2; and "If an answer is an enum, a definition states this paper's
 -- number and values for each of the enum's cases".
 use Prim.Native.Nat.{ℕ}
 use mathlib.Core.List.{List, [], _∷_}
@@ -6,11 +6,11 @@ use lib.ListN.{length, getD}
 use Rattle.rules.specs.declared.GoldenState.{GoldenState}
 use Rattle.rules.specs.declared.Middle.{Middle}
 use Rattle.rules.specs.declared.File.{File}
-use Rattle.rules.specs.declared.File.the-variants.{Dossier, Unit as UnitFile, Sheet, Output as OutputFile, Number}
+use Rattle.rules.specs.declared.File.the-variants.{Dossier, Unit as UnitFile, Sheet, Output as OutputFile, Number, Text}
 use Rattle.rules.specs.declared.Fault.{Fault}
 use Rattle.rules.specs.declared.Fault.the-variants.{TooLong, CutShort, BadNumbers, BadTable, BadWord, Trailing}
 use Rattle.rules.specs.declared.Refusal.{Refusal}
-use Rattle.rules.specs.declared.Refusal.the-variants.{Malformed, NoEmptyWord, Unreached, NoSeparator, NotSeparated, Missing, Repeated, Foreign, Absent, OtherInputs, TooManyStates, NoRoom, NotReduced}
+use Rattle.rules.specs.declared.Refusal.the-variants.{Malformed, NoEmptyWord, Unreached, NoSeparator, NotSeparated, Missing, Repeated, Foreign, Absent, OtherInputs, TooManyStates, NoRoom, NotReduced, BadLine, Contradiction, Incomplete}
 use Rattle.rules.specs.declared.Checked.{Checked}
 use Rattle.rules.specs.declared.Checked.the-variants.{Accepted, Refused as CheckRefused}
 use Rattle.rules.specs.declared.Built.{Built}
@@ -23,12 +23,22 @@ use Rattle.rules.specs.declared.Judged.{Judged}
 use Rattle.rules.specs.declared.Judged.the-variants.{Agrees, Deviates, Refused as JudgeRefused}
 use Rattle.rules.specs.declared.Costed.{Costed}
 use Rattle.rules.specs.declared.Costed.the-variants.{Cost, Refused as CostRefused}
+use Rattle.rules.specs.declared.UnitState.{UnitState}
+use Rattle.rules.specs.declared.Input.{Input}
+use Rattle.rules.specs.declared.Imported.{Imported}
+use Rattle.rules.specs.declared.Imported.the-variants.{Written as ImportWritten, Refused as ImportRefused}
 use Rattle.rules.specs.declared.Found.{Found}
 use Rattle.rules.specs.declared.Found.the-variants.{Written as FoundWritten, Refused as FindRefused}
 use Rattle.rules.specs.Words.{Word}
 
 abbrev pub goldenState : ℕ → GoldenState
 goldenState q = record { 0 = q }
+
+abbrev pub unitState : ℕ → UnitState
+unitState q = record { 0 = q }
+
+abbrev pub inputOf : ℕ → Input
+inputOf i = record { 0 = i }
 
 -- a word of at most five inputs as a middle; the inputs beyond its length are 0
 abbrev pub middleOf : Word → Middle
@@ -42,12 +52,12 @@ middleOf w =
       e = record { 0 = getD w 4 0 };
     }
 
--- 5 is left for a text
 abbrev pub fileNumber : File → ℕ
 fileNumber Dossier = 1
 fileNumber UnitFile = 2
 fileNumber Sheet = 3
 fileNumber OutputFile = 4
+fileNumber Text = 5
 fileNumber Number = 6
 
 abbrev pub faultNumber : Fault → ℕ
@@ -73,6 +83,9 @@ numberOf OtherInputs = 15
 numberOf TooManyStates = 16
 numberOf (NoRoom n) = 17
 numberOf (NotReduced p q) = 18
+numberOf (BadLine n) = 19
+numberOf (Contradiction n) = 20
+numberOf (Incomplete q i) = 21
 
 -- the file that it concerns
 abbrev pub fileOf : Refusal → File
@@ -89,6 +102,9 @@ fileOf OtherInputs = UnitFile
 fileOf TooManyStates = UnitFile
 fileOf (NoRoom n) = OutputFile
 fileOf (NotReduced p q) = UnitFile
+fileOf (BadLine n) = Text
+fileOf (Contradiction n) = Text
+fileOf (Incomplete q i) = Text
 
 -- what is also returned; of a middle, its length and five inputs
 abbrev pub valuesOf : Refusal → List ℕ
@@ -105,6 +121,9 @@ valuesOf OtherInputs = []
 valuesOf TooManyStates = []
 valuesOf (NoRoom n) = n ∷ []
 valuesOf (NotReduced p q) = p .0 ∷ q .0 ∷ []
+valuesOf (BadLine n) = n ∷ []
+valuesOf (Contradiction n) = n ∷ []
+valuesOf (Incomplete q i) = q .0 ∷ i .0 ∷ []
 
 -- What an answer says: its number, the number of the file that it concerns, and its values. A verdict concerns no file: 0. A
 -- verdict's number is 0, or 31 where something differs; no refusal has either.
@@ -152,3 +171,7 @@ costSays (CostRefused r) = refusing r
 abbrev pub findSays : Found → Said
 findSays (FoundWritten n) = well (n ∷ [])
 findSays (FindRefused r) = refusing r
+
+abbrev pub importSays : Imported → Said
+importSays (ImportWritten n) = well (n ∷ [])
+importSays (ImportRefused r) = refusing r

@@ -8,6 +8,7 @@ pub mod Needed
 pub mod Answers
 pub mod Operations
 pub mod Find
+pub mod Kiss2
 pub mod Line
 pub mod Promises
 pub mod Starred

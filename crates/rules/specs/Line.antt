@@ -8,9 +8,9 @@ use mathlib.Core.Option.{Option, none, some}
 use lib.Dec.{ltb}
 use lib.ListN.{length, getD}
 use Rattle.rules.specs.declared.File.{File}
-use Rattle.rules.specs.declared.File.the-variants.{Dossier, Unit as UnitFile, Sheet, Output as OutputFile, Number}
+use Rattle.rules.specs.declared.File.the-variants.{Dossier, Unit as UnitFile, Sheet, Output as OutputFile, Number, Text}
 use Rattle.rules.specs.declared.Refusal.{Refusal}
-use Rattle.rules.specs.declared.Refusal.the-variants.{Malformed, NoEmptyWord, Unreached, NoSeparator, NotSeparated, Missing, Repeated, Foreign, Absent, OtherInputs, TooManyStates, NoRoom, NotReduced}
+use Rattle.rules.specs.declared.Refusal.the-variants.{Malformed, NoEmptyWord, Unreached, NoSeparator, NotSeparated, Missing, Repeated, Foreign, Absent, OtherInputs, TooManyStates, NoRoom, NotReduced, BadLine, Contradiction, Incomplete}
 use Rattle.rules.specs.Words.{Word}
 use Rattle.rules.specs.Machines.{answer}
 use Rattle.rules.specs.Files.{golden, unit}
@@ -52,6 +52,7 @@ letter UnitFile = text "U"
 letter Sheet = text "S"
 letter OutputFile = text "O"
 letter Number = text "N"
+letter Text = text "T"
 
 -- for 1 to 6 the file's letter and the place
 abbrev pub spot : Refusal → List (List ℕ)
@@ -68,6 +69,9 @@ spot OtherInputs = []
 spot TooManyStates = []
 spot (NoRoom n) = []
 spot (NotReduced p q) = []
+spot (BadLine n) = []
+spot (Contradiction n) = []
+spot (Incomplete q i) = []
 
 abbrev pub refusalLine : Refusal → List ℕ
 refusalLine r = line (text "REFUSED" ∷ decimal (numberOf r) ∷ spot r)

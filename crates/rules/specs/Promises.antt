@@ -9,9 +9,11 @@ use Rattle.rules.specs.declared.Compared.{Compared}
 use Rattle.rules.specs.declared.Judged.{Judged}
 use Rattle.rules.specs.declared.Costed.{Costed}
 use Rattle.rules.specs.declared.Found.{Found}
-use Rattle.rules.specs.Answers.{checkSays, buildSays, runSays, compareSays, judgeSays, costSays, findSays}
+use Rattle.rules.specs.declared.Imported.{Imported}
+use Rattle.rules.specs.Answers.{checkSays, buildSays, runSays, compareSays, judgeSays, costSays, findSays, importSays}
 use Rattle.rules.specs.Operations.{checkAnswer, buildAnswer, buildOutput, runAnswer, compareAnswer, compareOutput, judgeAnswer, partOf, judgedPart, costAnswer}
 use Rattle.rules.specs.Find.{findAnswer, findOutput}
+use Rattle.rules.specs.Kiss2.{readKiss2Answer, readKiss2Output}
 use Rattle.rules.specs.Line.{runLine}
 
 abbrev pub CheckPromise : List ℕ → Checked → Type 0
@@ -41,6 +43,10 @@ CostPromise dossier r = costSays r ≡ costSays (costAnswer dossier)
 -- `bound` is the number that was passed
 abbrev pub FindPromise : List ℕ → ℕ → List ℕ → Found → List ℕ → Type 0
 FindPromise unit bound out r left = (findSays r ≡ findSays (findAnswer unit bound out)) × (left ≡ findOutput unit bound out)
+
+-- `out` is the output at the call, `left` what it holds afterwards
+abbrev pub ReadKiss2Promise : List ℕ → List ℕ → Imported → List ℕ → Type 0
+ReadKiss2Promise text out r left = (importSays r ≡ importSays (readKiss2Answer text out)) × (left ≡ readKiss2Output text out)
 
 -- `line` is what the program `run` prints
 abbrev pub LinePromise : List ℕ → List ℕ → List ℕ → Type 0

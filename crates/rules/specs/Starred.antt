@@ -17,16 +17,19 @@ use Rattle.rules.specs.declared.Fault.{Fault}
 use Rattle.rules.specs.declared.Fault.the-variants.{TooLong, CutShort, BadNumbers, BadTable, BadWord, Trailing}
 use Rattle.rules.specs.declared.Found.{Found}
 use Rattle.rules.specs.declared.Found.the-variants.{Written as FoundWritten, Refused as FindRefused}
-use Rattle.rules.specs.declared.Refusal.the-variants.{Malformed, NoEmptyWord, Unreached, NoSeparator, NotSeparated, Missing, NoRoom, NotReduced}
+use Rattle.rules.specs.declared.Imported.{Imported}
+use Rattle.rules.specs.declared.Imported.the-variants.{Written as ImportWritten, Refused as ImportRefused}
+use Rattle.rules.specs.declared.Refusal.the-variants.{Malformed, NoEmptyWord, Unreached, NoSeparator, NotSeparated, Missing, NoRoom, NotReduced, BadLine, Contradiction, Incomplete}
 use Rattle.rules.specs.Lists.{sum}
 use Rattle.rules.specs.Words.{Word, wordsOf, shortlex}
 use Rattle.rules.specs.Machines.{answer}
-use Rattle.rules.specs.Files.{DossierData, UnitData, SheetRecord, golden, unit, bound, countBytes, outputBytes, entryBytes, tableBytes, wordBytes, wordsBytes, frontBytes, dossierBytes}
+use Rattle.rules.specs.Files.{DossierData, UnitData, SheetRecord, golden, unit, bound, countBytes, outputBytes, entryBytes, tableBytes, wordBytes, wordsBytes, frontBytes, dossierBytes, unitBytes}
 use Rattle.rules.specs.Reading.{byte, judged, count, many, word, words, output, entry, table, sheetRecord, ending, dossier, unitTable, sheet}
 use Rattle.rules.specs.Needed.{middles, needed, neededWords, unreached, pairs, unseparated, missing, distinct, maximalOf, builtTests}
-use Rattle.rules.specs.Answers.{goldenState, middleOf}
+use Rattle.rules.specs.Answers.{goldenState, unitState, inputOf, middleOf}
 use Rattle.rules.specs.Operations.{Outcome, fine, refuse, answered, readFile, readSheet, readDossier, readUnit, sound, enough, check, checkAnswer, build, buildAnswer, buildOutput, run, runAnswer, telling, compare, compareAnswer, compareOutput, repeated, foreign, absent, pair, judge, judgeAnswer, partOf, testPart, judgedPart}
 use Rattle.rules.specs.Find.{accessWord, tellingWord, unreachable, untold, foundCover, foundSeparating, find, findAnswer, findOutput}
+use Rattle.rules.specs.Kiss2.{linesOf, fieldsOf, lineSays, opened, outputValue, readLines, isWhole, stateNames, silent, unitSaid, readKiss2, readKiss2Answer, readKiss2Output}
 use Rattle.rules.specs.Line.{text, decimal, runLine}
 
 -- The bytes of sections: numbers and table of G, its cover, its separating words.
@@ -111,6 +114,27 @@ dossier4 m =
 abbrev unitOf1 : List (ℕ × ℕ) → List ℕ
 unitOf1 entries = (2 ∷ 0 ∷ 1 ∷ length entries ∷ length entries ∷ 0 ∷ []) ++ flatMap (λ (q, o). q ∷ o ∷ []) entries
 
+-- G as a text (docs/KISS2.md)
+abbrev linesText : List (List ℕ) → List ℕ
+linesText lines = flatMap (λ line. line ++ (10 ∷ [])) lines
+
+abbrev textG : List ℕ
+textG =
+    linesText (text "# The golden G of document 01" ∷ text ".i 1" ∷ text ".o 1" ∷ text ".p 4" ∷ text ".s 2" ∷ text ".r low" ∷ text "0 low low 0" ∷ text "1 low high 0" ∷ text "0 high low 1" ∷ text "1 high high 0" ∷ text ".e" ∷ [])
+
+-- the other text of that page: dashes, and a reset state that is not the first
+abbrev textDashes : List ℕ
+textDashes =
+    linesText (text ".i 2" ∷ text ".o 3" ∷ text ".s 3" ∷ text ".r idle" ∷ text "# left bit: start, right bit: stop" ∷ text "-1 run  idle 001" ∷ text "00 run  run  100" ∷ text "10 run  run  100" ∷ text "0- idle idle 000" ∷ text "1- idle wait 010" ∷ text "-0 wait run  110" ∷ text "-1 wait idle 001" ∷ text ".e" ∷ [])
+
+abbrev unitDashes : List ℕ
+unitDashes =
+    (2 ∷ 0 ∷ 4 ∷ 3 ∷ 12 ∷ 0 ∷ []) ++ (0 ∷ 0 ∷ 0 ∷ 0 ∷ 2 ∷ 2 ∷ 2 ∷ 2 ∷ []) ++ (1 ∷ 4 ∷ 0 ∷ 1 ∷ 1 ∷ 4 ∷ 0 ∷ 1 ∷ []) ++ (1 ∷ 6 ∷ 0 ∷ 1 ∷ 1 ∷ 6 ∷ 0 ∷ 1 ∷ [])
+
+-- one input bit and one output bit, and then these lines
+abbrev textOf : List (List ℕ) → List ℕ
+textOf lines = linesText (text ".i 1" ∷ text ".o 1" ∷ lines)
+
 -- one state, one input, output 0, cover the empty word
 abbrev dossier1 : ℕ → List ℕ → List ℕ → List ℕ
 dossier1 m separating tests = (3 ∷ 0 ∷ 1 ∷ 1 ∷ m ∷ []) ++ (1 ∷ 0 ∷ 0 ∷ 0 ∷ []) ++ onlyEmpty ++ separating ++ tests
@@ -183,6 +207,10 @@ Compares bytes other out r left = (compareAnswer bytes other out ≡ r) × (comp
 -- what find answers and leaves in an output
 abbrev Finds : List ℕ → ℕ → List ℕ → Found → List ℕ → Type 0
 Finds bytes m out r left = (findAnswer bytes m out ≡ r) × (findOutput bytes m out ≡ left)
+
+-- what the import answers and leaves in an output
+abbrev ReadsText : List ℕ → List ℕ → Imported → List ℕ → Type 0
+ReadsText bytes out r left = (readKiss2Answer bytes out ≡ r) × (readKiss2Output bytes out ≡ left)
 
 -- what the judge answers, where the part that it hands back stands, and the part
 abbrev Judges : List ℕ → List ℕ → Judged → ℕ → List ℕ → Type 0
@@ -381,9 +409,26 @@ pub record Starred : Type 0 where
   pub find-unreached : Finds (unitOf1 ((1, 0) ∷ (0, 0) ∷ (0, 1) ∷ (0, 2) ∷ [])) 0 (blank 26) (FindRefused (Unreached UnitFile (goldenState 2))) (blank 26)
   -- the states 1 and 2 are alike, and so are 1 and 3, and 2 and 3: the lowest pair
   pub find-not-reduced : Finds (unitOf1 ((1, 0) ∷ (2, 1) ∷ (3, 1) ∷ (1, 1) ∷ [])) 0 [] (FindRefused (NotReduced (goldenState 1) (goldenState 2))) []
+  -- L2: G's text is G as a unit, 14 bytes; 13 bytes are NO ROOM, needed 14
+  pub import-G : ReadsText textG (blank 16) (ImportWritten 14) (unitG ++ blank 2)
+  pub import-no-room : ReadsText textG (blank 13) (ImportRefused (NoRoom 14)) (blank 13)
+  -- the leftmost bit is the highest, a dash stands for both bits, the reset state is 0
+  pub import-dashes : ReadsText textDashes (blank 30) (ImportWritten 30) unitDashes
+  -- a line that breaks a rule, counted from 1: an output of two bits
+  pub import-bad-line : ReadsText (textOf (text "0 a a 0" ∷ text "1 a a 00" ∷ text ".e" ∷ [])) [] (ImportRefused (BadLine 4)) []
+  -- a term that differs from an earlier one, which had a dash
+  pub import-contradiction : ReadsText (textOf (text "- a a 0" ∷ text "1 a a 1" ∷ text ".e" ∷ [])) [] (ImportRefused (Contradiction 4)) []
+  -- a term that does both, with a state more than `.s` says: 19
+  pub import-both : ReadsText (textOf (text ".s 1" ∷ text "- a a 0" ∷ text "1 a b 0" ∷ text ".e" ∷ [])) [] (ImportRefused (BadLine 5)) []
+  -- no end: behind the last line, though an entry is lacking too
+  pub import-no-end : ReadsText (textOf (text "0 a a 0" ∷ [])) [] (ImportRefused (BadLine 4)) []
+  pub import-empty : ReadsText [] [] (ImportRefused (BadLine 1)) []
+  -- the lowest state, then the lowest input, without a term, before NO ROOM: b is a next state only, and has the number 2
+  pub import-incomplete : ReadsText (textOf (text "1 a b 0" ∷ text "- c a 0" ∷ text ".e" ∷ [])) [] (ImportRefused (Incomplete (unitState 0) (inputOf 0))) []
+  pub import-next-only : ReadsText (textOf (text "- a b 0" ∷ text "- c a 0" ∷ text ".e" ∷ [])) [] (ImportRefused (Incomplete (unitState 2) (inputOf 0))) []
 
 pub starred : Starred
-unfolding flatMap wordsOf shortlex countBytes outputBytes entryBytes tableBytes wordBytes wordsBytes frontBytes dossierBytes byte judged count many word words output entry table sheetRecord ending dossier unitTable sheet middles needed unreached pairs unseparated missing maximalOf builtTests readFile sound enough check build run telling compare accessWord tellingWord unreachable untold foundCover foundSeparating find repeated foreign absent pair judge testPart decimal runLine
+unfolding flatMap wordsOf shortlex countBytes outputBytes entryBytes tableBytes wordBytes wordsBytes frontBytes dossierBytes byte judged count many word words output entry table sheetRecord ending dossier unitTable sheet middles needed unreached pairs unseparated missing maximalOf builtTests readFile sound enough check build run telling compare accessWord tellingWord unreachable untold foundCover foundSeparating find linesOf fieldsOf lineSays opened outputValue readLines isWhole stateNames silent unitSaid unitBytes readKiss2 repeated foreign absent pair judge testPart decimal runLine
 starred =
     record {
       needed-2 = refl;
@@ -455,4 +500,14 @@ starred =
       find-high-bound = (refl, refl);
       find-unreached = (refl, refl);
       find-not-reduced = (refl, refl);
+      import-G = (refl, refl);
+      import-no-room = (refl, refl);
+      import-dashes = (refl, refl);
+      import-bad-line = (refl, refl);
+      import-contradiction = (refl, refl);
+      import-both = (refl, refl);
+      import-no-end = (refl, refl);
+      import-empty = (refl, refl);
+      import-incomplete = (refl, refl);
+      import-next-only = (refl, refl);
     }

@@ -95,6 +95,7 @@ pub enum File {
     Sheet,
     Output,
     Number,
+    Text,
 }
 
 impl File {
@@ -107,6 +108,7 @@ impl File {
             File::Sheet => 3,
             File::Output => 4,
             File::Number => 6,
+            File::Text => 5,
         }
     }
 }
@@ -146,7 +148,7 @@ pub struct Middle {
     pub e: Input,
 }
 
-// The refusals 1 to 18. Those of 1 to 6 are one case: the fault, the file and the byte place. UNREACHED concerns the file that is
+// The refusals 1 to 21. Those of 1 to 6 are one case: the fault, the file and the byte place. UNREACHED concerns the file that is
 // taken as golden: a dossier, or the unit of find.
 pub enum Refusal {
     Malformed(Fault, File, usize),
@@ -162,6 +164,9 @@ pub enum Refusal {
     TooManyStates,
     NoRoom(usize),
     NotReduced(GoldenState, GoldenState),
+    BadLine(usize),
+    Contradiction(usize),
+    Incomplete(UnitState, Input),
 }
 
 pub enum Checked {
@@ -204,6 +209,12 @@ pub enum Costed {
 
 // The length of what was written.
 pub enum Found {
+    Written(usize),
+    Refused(Refusal),
+}
+
+// The length of what was written.
+pub enum Imported {
     Written(usize),
     Refused(Refusal),
 }

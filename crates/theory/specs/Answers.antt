@@ -9,11 +9,11 @@ use borrow.Author.Tests.{ne-eqb}
 use lib.Dec.{leb, eqb}
 use lib.ListN.{getD}
 use Rattle.rules.specs.declared.File.{File}
-use Rattle.rules.specs.declared.File.the-variants.{Dossier, Unit as UnitFile, Sheet, Output as OutputFile, Number}
+use Rattle.rules.specs.declared.File.the-variants.{Dossier, Unit as UnitFile, Sheet, Output as OutputFile, Number, Text}
 use Rattle.rules.specs.declared.Fault.{Fault}
 use Rattle.rules.specs.declared.Fault.the-variants.{TooLong, CutShort, BadNumbers, BadTable, BadWord, Trailing}
 use Rattle.rules.specs.declared.Refusal.{Refusal}
-use Rattle.rules.specs.declared.Refusal.the-variants.{Malformed, NoEmptyWord, Unreached, NoSeparator, NotSeparated, Missing, Repeated, Foreign, Absent, OtherInputs, TooManyStates, NoRoom, NotReduced}
+use Rattle.rules.specs.declared.Refusal.the-variants.{Malformed, NoEmptyWord, Unreached, NoSeparator, NotSeparated, Missing, Repeated, Foreign, Absent, OtherInputs, TooManyStates, NoRoom, NotReduced, BadLine, Contradiction, Incomplete}
 use Rattle.rules.specs.declared.Checked.{Checked}
 use Rattle.rules.specs.declared.Checked.the-variants.{Accepted, Refused as CheckRefused}
 use Rattle.rules.specs.declared.Built.{Built}
@@ -28,10 +28,13 @@ use Rattle.rules.specs.declared.Costed.{Costed}
 use Rattle.rules.specs.declared.Costed.the-variants.{Cost, Refused as CostRefused}
 use Rattle.rules.specs.declared.Found.{Found}
 use Rattle.rules.specs.declared.Found.the-variants.{Written as FoundWritten, Refused as FindRefused}
-use Rattle.rules.specs.Answers.{Said, fileNumber, faultNumber, numberOf, goldenState, refusing, checkSays, buildSays, runSays, compareSays, judgeSays, costSays, findSays}
+use Rattle.rules.specs.declared.Imported.{Imported}
+use Rattle.rules.specs.declared.Imported.the-variants.{Written as ImportWritten, Refused as ImportRefused}
+use Rattle.rules.specs.Answers.{Said, fileNumber, faultNumber, numberOf, goldenState, unitState, inputOf, refusing, checkSays, buildSays, runSays, compareSays, judgeSays, costSays, findSays, importSays}
 use Rattle.rules.specs.Operations.{checkAnswer, buildAnswer, buildOutput, runAnswer, compareAnswer, compareOutput, judgeAnswer, partOf, judgedPart, costAnswer}
 use Rattle.rules.specs.Find.{findAnswer, findOutput}
-use Rattle.rules.specs.Promises.{CheckPromise, BuildPromise, RunPromise, ComparePromise, JudgePromise, JudgeWordPromise, CostPromise, FindPromise, LinePromise}
+use Rattle.rules.specs.Kiss2.{readKiss2Answer, readKiss2Output}
+use Rattle.rules.specs.Promises.{CheckPromise, BuildPromise, RunPromise, ComparePromise, JudgePromise, JudgeWordPromise, CostPromise, FindPromise, ReadKiss2Promise, LinePromise}
 use Rattle.rules.specs.Line.{runLine}
 
 -- the value at a place
@@ -42,7 +45,7 @@ abbrev pub faultSaid : ℕ → Fault
 faultSaid n = cond (eqb n 1) TooLong (cond (eqb n 2) CutShort (cond (eqb n 3) BadNumbers (cond (eqb n 4) BadTable (cond (eqb n 5) BadWord Trailing))))
 
 abbrev pub fileSaid : ℕ → File
-fileSaid n = cond (eqb n 1) Dossier (cond (eqb n 2) UnitFile (cond (eqb n 3) Sheet (cond (eqb n 4) OutputFile Number)))
+fileSaid n = cond (eqb n 1) Dossier (cond (eqb n 2) UnitFile (cond (eqb n 3) Sheet (cond (eqb n 4) OutputFile (cond (eqb n 5) Text Number))))
 
 -- the refusal that has a number, a file and values
 abbrev pub refusalSaid : Said → Refusal
@@ -61,7 +64,10 @@ refusalSaid s =
     (cond (eqb n 14) (Absent (v 0))
     (cond (eqb n 15) OtherInputs
     (cond (eqb n 16) TooManyStates
-    (cond (eqb n 17) (NoRoom (v 0)) (NotReduced (goldenState (v 0)) (goldenState (v 1))))))))))))))
+    (cond (eqb n 17) (NoRoom (v 0))
+    (cond (eqb n 18) (NotReduced (goldenState (v 0)) (goldenState (v 1)))
+    (cond (eqb n 19) (BadLine (v 0))
+    (cond (eqb n 20) (Contradiction (v 0)) (Incomplete (unitState (v 0)) (inputOf (v 1)))))))))))))))))
 
 fault-said : (fault : Fault) (f : File) (p : ℕ) → fileSaid (fileNumber f) ≡ f → refusalSaid (refusing (Malformed fault f p)) ≡ Malformed fault f p
 fault-said TooLong f p e = rw e
@@ -77,6 +83,7 @@ file-said UnitFile = refl
 file-said Sheet = refl
 file-said OutputFile = refl
 file-said Number = refl
+file-said Text = refl
 
 -- Number, file and values determine a refusal.
 pub refusal-said : (r : Refusal) → refusalSaid (refusing r) ≡ r
@@ -93,6 +100,9 @@ refusal-said OtherInputs = refl
 refusal-said TooManyStates = refl
 refusal-said (NoRoom n) = refl
 refusal-said (NotReduced p q) = refl
+refusal-said (BadLine n) = refl
+refusal-said (Contradiction n) = refl
+refusal-said (Incomplete q i) = refl
 
 -- no refusal has the number of a verdict
 pub fault-numbers : (fault : Fault) → (0 < faultNumber fault) × (faultNumber fault < 7)
@@ -103,7 +113,7 @@ fault-numbers BadTable = (omega arith, omega arith)
 fault-numbers BadWord = (omega arith, omega arith)
 fault-numbers Trailing = (omega arith, omega arith)
 
-pub refusal-numbers : (r : Refusal) → (0 < numberOf r) × (numberOf r < 19)
+pub refusal-numbers : (r : Refusal) → (0 < numberOf r) × (numberOf r < 22)
 refusal-numbers (Malformed fault f p) = let (a, b) = fault-numbers fault in (a, omega arith)
 refusal-numbers NoEmptyWord = (omega arith, omega arith)
 refusal-numbers (Unreached f q) = (omega arith, omega arith)
@@ -117,6 +127,9 @@ refusal-numbers OtherInputs = (omega arith, omega arith)
 refusal-numbers TooManyStates = (omega arith, omega arith)
 refusal-numbers (NoRoom n) = (omega arith, omega arith)
 refusal-numbers (NotReduced p q) = (omega arith, omega arith)
+refusal-numbers (BadLine n) = (omega arith, omega arith)
+refusal-numbers (Contradiction n) = (omega arith, omega arith)
+refusal-numbers (Incomplete q i) = (omega arith, omega arith)
 
 -- an answer of three kinds, by its number
 abbrev kind : {A : Type 0} → Said → A → A → (Refusal → A) → A
@@ -147,6 +160,9 @@ costSaid s = kind s (Cost (value s 0) (value s 1)) (Cost 0 0) CostRefused
 
 abbrev pub findSaid : Said → Found
 findSaid s = kind s (FoundWritten (value s 0)) (FoundWritten 0) FindRefused
+
+abbrev pub importSaid : Said → Imported
+importSaid s = kind s (ImportWritten (value s 0)) (ImportWritten 0) ImportRefused
 
 pub check-said : (r : Checked) → checkSaid (checkSays r) ≡ r
 check-said Accepted = refl
@@ -179,6 +195,10 @@ pub find-said : (r : Found) → findSaid (findSays r) ≡ r
 find-said (FoundWritten n) = refl
 find-said (FindRefused r) = kind-refusing r _ _ FindRefused
 
+pub import-said : (r : Imported) → importSaid (importSays r) ≡ r
+import-said (ImportWritten n) = refl
+import-said (ImportRefused r) = kind-refusing r _ _ ImportRefused
+
 -- Number, file and values determine an answer.
 pub determined : {A : Type 0} (says : A → Said) (said : Said → A) → ((a : A) → said (says a) ≡ a) → (a b : A) → says a ≡ says b → a ≡ b
 determined says said back a b e = sym (back a) ∙ ap said e ∙ back b
@@ -208,6 +228,10 @@ pub find-answer : (unit : List ℕ) (bound : ℕ) (out : List ℕ) (r : Found) (
     → (r ≡ findAnswer unit bound out) × (left ≡ findOutput unit bound out)
 find-answer unit bound out r left (e, l) = (determined findSays findSaid find-said r (findAnswer unit bound out) e, l)
 
+pub import-answer : (text out : List ℕ) (r : Imported) (left : List ℕ) → ReadKiss2Promise text out r left
+    → (r ≡ readKiss2Answer text out) × (left ≡ readKiss2Output text out)
+import-answer text out r left (e, l) = (determined importSays importSaid import-said r (readKiss2Answer text out) e, l)
+
 -- The promises, each over the inputs of its operation: what an operation may answer and leave in an output.
 pub record OneAnswer : Type 0 where
   pub check : (dossier : List ℕ) (r s : Checked) → CheckPromise dossier r → CheckPromise dossier s → r ≡ s
@@ -218,6 +242,7 @@ pub record OneAnswer : Type 0 where
   pub judge-word : (dossier sheet part other : List ℕ) → JudgeWordPromise dossier sheet part → JudgeWordPromise dossier sheet other → part ≡ other
   pub cost : (dossier : List ℕ) (r s : Costed) → CostPromise dossier r → CostPromise dossier s → r ≡ s
   pub find : (unit : List ℕ) (bound : ℕ) (out : List ℕ) (r s : Found) (left after : List ℕ) → FindPromise unit bound out r left → FindPromise unit bound out s after → (r ≡ s) × (left ≡ after)
+  pub read-kiss2 : (text out : List ℕ) (r s : Imported) (left after : List ℕ) → ReadKiss2Promise text out r left → ReadKiss2Promise text out s after → (r ≡ s) × (left ≡ after)
   pub line : (golden unit line other : List ℕ) → LinePromise golden unit line → LinePromise golden unit other → line ≡ other
 
 -- Any two results that a promise allows are equal.
@@ -241,6 +266,10 @@ one-answer =
           let (p₀, p₁) = find-answer u m o r l p in
           let (q₀, q₁) = find-answer u m o s a q in
           (p₀ ∙ sym q₀, p₁ ∙ sym q₁);
+      read-kiss2 = λ t o r s l a p q.
+          let (p₀, p₁) = import-answer t o r l p in
+          let (q₀, q₁) = import-answer t o s a q in
+          (p₀ ∙ sym q₀, p₁ ∙ sym q₁);
       line = λ g u l m e f. e ∙ sym f;
     }
 
@@ -253,6 +282,7 @@ pub record SomeAnswer : Type 0 where
   pub judge-word : (dossier sheet : List ℕ) → (part : List ℕ) × JudgeWordPromise dossier sheet part
   pub cost : (dossier : List ℕ) → (r : Costed) × CostPromise dossier r
   pub find : (unit : List ℕ) (bound : ℕ) (out : List ℕ) → (r : Found) × (left : List ℕ) × FindPromise unit bound out r left
+  pub read-kiss2 : (text out : List ℕ) → (r : Imported) × (left : List ℕ) × ReadKiss2Promise text out r left
   pub line : (golden unit : List ℕ) → (line : List ℕ) × LinePromise golden unit line
 
 -- Each promise allows some result, for all inputs.
@@ -267,5 +297,6 @@ some-answer =
       judge-word = λ d h. (partOf d (judgedPart d h), refl);
       cost = λ d. (costAnswer d, refl);
       find = λ u m o. (findAnswer u m o, findOutput u m o, (refl, refl));
+      read-kiss2 = λ t o. (readKiss2Answer t o, readKiss2Output t o, (refl, refl));
       line = λ g u. (runLine g u, refl);
     }

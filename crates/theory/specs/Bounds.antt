@@ -10,10 +10,10 @@ use mathlib.Core.List.{List, [], _∷_, map, flatMap}
 use mathlib.Core.Bool.{not}
 use lib.ListN.{length, getD, getElem?, take, length-append}
 use Rattle.rules.specs.declared.File.{File}
-use Rattle.rules.specs.declared.File.the-variants.{Dossier, Unit as UnitFile, Sheet, Output as OutputFile, Number}
+use Rattle.rules.specs.declared.File.the-variants.{Dossier, Unit as UnitFile, Sheet, Output as OutputFile, Number, Text}
 use Rattle.rules.specs.declared.Fault.{Fault}
 use Rattle.rules.specs.declared.Refusal.{Refusal}
-use Rattle.rules.specs.declared.Refusal.the-variants.{Malformed, NoEmptyWord, Unreached, NoSeparator, NotSeparated, Missing, Repeated, Foreign, Absent, OtherInputs, TooManyStates, NoRoom, NotReduced}
+use Rattle.rules.specs.declared.Refusal.the-variants.{Malformed, NoEmptyWord, Unreached, NoSeparator, NotSeparated, Missing, Repeated, Foreign, Absent, OtherInputs, TooManyStates, NoRoom, NotReduced, BadLine, Contradiction, Incomplete}
 use Rattle.rules.specs.declared.Checked.{Checked}
 use Rattle.rules.specs.declared.Checked.the-variants.{Accepted, Refused as CheckRefused}
 use Rattle.rules.specs.declared.Built.{Built}
@@ -28,6 +28,8 @@ use Rattle.rules.specs.declared.Costed.{Costed}
 use Rattle.rules.specs.declared.Costed.the-variants.{Cost, Refused as CostRefused}
 use Rattle.rules.specs.declared.Found.{Found}
 use Rattle.rules.specs.declared.Found.the-variants.{Written as FoundWritten, Refused as FindRefused}
+use Rattle.rules.specs.declared.Imported.{Imported}
+use Rattle.rules.specs.declared.Imported.the-variants.{Written as ImportWritten, Refused as ImportRefused}
 use Rattle.rules.specs.Machines.{Machine, answer, answerFrom}
 use Rattle.rules.specs.Sizes.{mostTestWord, mostInputs, mostDossierBytes, mostUnitBytes, mostSheetBytes}
 use Rattle.rules.specs.Lists.{_∈_, sum}
@@ -35,13 +37,14 @@ use Rattle.rules.specs.Words.{Word, Valid, same}
 use Rattle.rules.specs.Files.{DossierData, UnitData, SheetRecord, golden, unit, wordBytes, countBytes, wordsBytes, frontBytes, dossierBytes, recordBytes, sheetBytes}
 use Rattle.rules.specs.Reading.{Reader, dossier, unitTable, sheet}
 use Rattle.rules.specs.Operations.{Outcome, fine, refuse, readFile, readDossier, readUnit, readSheet, recordedFor, Paired, judge, deviatingOf, answered, noPart, testPart, deviatingPart, judgedPart}
-use Rattle.rules.specs.Answers.{Said, fileNumber, well, differing, refusing, checkSays, buildSays, runSays, compareSays, judgeSays, costSays, findSays}
-use Rattle.rules.specs.Promises.{CheckPromise, BuildPromise, RunPromise, ComparePromise, JudgePromise, CostPromise, FindPromise}
+use Rattle.rules.specs.Answers.{Said, fileNumber, well, differing, refusing, checkSays, buildSays, runSays, compareSays, judgeSays, costSays, findSays, importSays}
+use Rattle.rules.specs.Kiss2.{linesOf}
+use Rattle.rules.specs.Promises.{CheckPromise, BuildPromise, RunPromise, ComparePromise, JudgePromise, CostPromise, FindPromise, ReadKiss2Promise}
 use Rattle.theory.specs.Sized.{SizedDossier, SizedSheet}
 use Rattle.theory.specs.Lists.{at-in, at-below, found-at}
 use Rattle.theory.specs.Outcomes.{read-refuses}
 use Rattle.theory.specs.Files.{Refusals, dossier-refusals, unit-refusals, sheet-refusals, dossier-sized, unit-sized, sheet-sized}
-use Rattle.theory.specs.Answers.{value, fault-numbers, check-answer, build-answer, run-answer, compare-answer, judge-answer, cost-answer, find-answer}
+use Rattle.theory.specs.Answers.{value, fault-numbers, check-answer, build-answer, run-answer, compare-answer, judge-answer, cost-answer, find-answer, import-answer}
 use Rattle.theory.specs.Spelling.{length-flatMap}
 use Rattle.theory.specs.Machines.{golden-complete}
 use Rattle.theory.specs.Steps.{FirstStep}
@@ -49,6 +52,10 @@ use Rattle.theory.specs.Build
 use Rattle.theory.specs.Build.{BuildRefuses, build-exactly}
 use Rattle.theory.specs.Find
 use Rattle.theory.specs.Find.{FindRefuses, find-exactly}
+use Rattle.theory.specs.Kiss2Lines.{few-lines}
+use Rattle.theory.specs.Kiss2
+use Rattle.theory.specs.Kiss2.{saidIn, lines-read, ImportRefuses, good-read, import-exactly}
+use Rattle.theory.specs.Kiss2Units.{said-table, said-small, good-text-read}
 use Rattle.theory.specs.Run
 use Rattle.theory.specs.Run.{RunRefuses, run-exactly, cost-exactly}
 use Rattle.theory.specs.Compare
@@ -134,6 +141,9 @@ SmallRefusal OtherInputs = Unit {0}
 SmallRefusal TooManyStates = Unit {0}
 SmallRefusal (NoRoom n) = Small n
 SmallRefusal (NotReduced p q) = Small (p .0) × Small (q .0)
+SmallRefusal (BadLine n) = Small n
+SmallRefusal (Contradiction n) = Small n
+SmallRefusal (Incomplete q i) = Small (q .0) × Small (i .0)
 
 -- an answer whose number is not MISSING's
 plain-fits : (s : Said) → s .number < 32 → s .file < 8 → s .number ≢ 11 → length (s .values) ≤ 2 → Small (value s 0) → Small (value s 1) → Fits s
@@ -146,6 +156,7 @@ file-fits UnitFile = omega arith
 file-fits Sheet = omega arith
 file-fits OutputFile = omega arith
 file-fits Number = omega arith
+file-fits Text = omega arith
 
 pub refusal-fits : (r : Refusal) → SmallRefusal r → Fits (refusing r)
 refusal-fits (Malformed fault f p) h =
@@ -183,6 +194,9 @@ refusal-fits OtherInputs h = plain-fits (refusing OtherInputs) (omega arith) (om
 refusal-fits TooManyStates h = plain-fits (refusing TooManyStates) (omega arith) (omega arith) (λ e. omega arith) (omega arith) (omega arith) (omega arith)
 refusal-fits (NoRoom n) h = plain-fits (refusing (NoRoom n)) (omega arith) (omega arith) (λ e. omega arith) (omega arith) h (omega arith)
 refusal-fits (NotReduced p q) (h, h′) = plain-fits (refusing (NotReduced p q)) (omega arith) (omega arith) (λ e. omega arith) (omega arith) h h′
+refusal-fits (BadLine n) h = plain-fits (refusing (BadLine n)) (omega arith) (omega arith) (λ e. omega arith) (omega arith) h (omega arith)
+refusal-fits (Contradiction n) h = plain-fits (refusing (Contradiction n)) (omega arith) (omega arith) (λ e. omega arith) (omega arith) h (omega arith)
+refusal-fits (Incomplete q i) (h, h′) = plain-fits (refusing (Incomplete q i)) (omega arith) (omega arith) (λ e. omega arith) (omega arith) h h′
 
 -- a verdict with at most two values
 pub well-fits : (values : List ℕ) → length values ≤ 2 → Small (getD values 0 0) → Small (getD values 1 0) → Fits (well values)
@@ -407,3 +421,22 @@ find-fits unitFile m out (FoundWritten n) left p =
     well-fits (n ∷ []) (omega arith) (omega (arith, f .small, is)) (omega arith)
 find-fits unitFile m out (FindRefused r) left p =
     refusal-fits r (find-small unitFile m out r (find-exactly unitFile m out (FindRefused r) .0 (sym (find-answer unitFile m out (FindRefused r) left p .0))))
+
+-- A line has a number of at most 65,535 and the one after the last of at most 65,536; a state is below 64, an input below 16, and a unit
+-- has at most 2,054 bytes.
+import-small : (text out : List ℕ) (r : Refusal) → ImportRefuses text out r → SmallRefusal r
+import-small text out r (Kiss2.one over is) = rw is (omega arith)
+import-small text out r (Kiss2.nineteen short i good (line, at, bad) is) = rw is (omega (arith, at-below (linesOf text) i at, few-lines text))
+import-small text out r (Kiss2.twenty short i good placed (line, at, against) is) = rw is (omega (arith, at-below (linesOf text) i at, few-lines text))
+import-small text out r (Kiss2.lacking short good lacks is) = rw is (omega (arith, few-lines text))
+import-small text out r (Kiss2.twenty-one short good whole q i low is) =
+    let sized = said-table (saidIn text) (lines-read 1 (linesOf text) (saidIn text) (good-read text good)) whole in
+    rw is (omega (arith, low .state, sized .few-states), omega (arith, low .input, sized .few-inputs))
+import-small text out r (Kiss2.no-room g tight is) = rw is (omega (arith, said-small (saidIn text) (good-text-read text g) (g .whole)))
+
+pub import-fits : (text out : List ℕ) (r : Imported) (left : List ℕ) → ReadKiss2Promise text out r left → Fits (importSays r)
+import-fits text out (ImportWritten n) left p =
+    let (x, is) = import-exactly text out (ImportWritten n) .0 (sym (import-answer text out (ImportWritten n) left p .0)) in
+    well-fits (n ∷ []) (omega arith) (omega (arith, is, said-small (saidIn text) (good-text-read text (x .good)) (x .good .whole))) (omega arith)
+import-fits text out (ImportRefused r) left p =
+    refusal-fits r (import-small text out r (import-exactly text out (ImportRefused r) .0 (sym (import-answer text out (ImportRefused r) left p .0))))

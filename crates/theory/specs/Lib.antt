@@ -39,6 +39,11 @@ pub mod Judge
 pub mod Reordering
 pub mod Build
 pub mod Find
+pub mod Cubes
+pub mod Kiss2Lines
+pub mod Kiss2
+pub mod Kiss2Units
+pub mod Kiss2Skipped
 pub mod Demands
 pub mod Writes
 pub mod Examples

@@ -1,8 +1,8 @@
--- Document 01, "No refusal writes to an output": what the promises of build, compare and find say of the output afterwards; and that
--- what find wrote reads back and can be built on.
+-- Document 01, "No refusal writes to an output": what the promises of build, compare, find and the import say of the output
+-- afterwards; that what find wrote reads back and can be built on, and that what the import wrote reads back.
 use Prim.Native.Nat.{ℕ, _≤_}
 use native.Mathlib.Omega.{arith}
-use mathlib.Core.Path.{_≡_, sym, ap, _∙_}
+use mathlib.Core.Path.{_≡_, refl, sym, ap, _∙_}
 use mathlib.Core.Logic.{_⊎_, inl, inr}
 use mathlib.Core.List.{List}
 use mathlib.Core.Option.{Option, none, some}
@@ -15,16 +15,20 @@ use Rattle.rules.specs.declared.Compared.{Compared}
 use Rattle.rules.specs.declared.Compared.the-variants.{Equal as Alike, Differs, Refused as CompareRefused}
 use Rattle.rules.specs.declared.Built.{Built}
 use Rattle.rules.specs.declared.Found.the-variants.{Written as FoundWritten, Refused as FindRefused}
-use Rattle.rules.specs.Files.{DossierData, UnitData, dossierBytes}
-use Rattle.rules.specs.Operations.{fine, refuse, readDossier, overwritten, build, buildAnswer, compare, compareAnswer, compareOutput}
+use Rattle.rules.specs.declared.Imported.the-variants.{Written as ImportWritten, Refused as ImportRefused}
+use Rattle.rules.specs.Files.{DossierData, UnitData, dossierBytes, unitBytes}
+use Rattle.rules.specs.Operations.{fine, refuse, readDossier, readUnit, overwritten, build, buildAnswer, compare, compareAnswer, compareOutput}
 use Rattle.rules.specs.Find.{find, findAnswer}
-use Rattle.rules.specs.Promises.{BuildPromise, ComparePromise, FindPromise}
+use Rattle.rules.specs.Kiss2.{unitSaid, readKiss2, readKiss2Answer}
+use Rattle.rules.specs.Promises.{BuildPromise, ComparePromise, FindPromise, ReadKiss2Promise}
 use Rattle.theory.specs.Outcomes.{settled}
-use Rattle.theory.specs.Answers.{build-answer, compare-answer, find-answer}
+use Rattle.theory.specs.Answers.{build-answer, compare-answer, find-answer, import-answer}
 use Rattle.theory.specs.Build.{build-gives, sound-builds}
 use Rattle.theory.specs.Files.{unit-sized}
 use Rattle.theory.specs.Find.{Drafts, find-gives, found-sound, found-reads-back}
 use Rattle.theory.specs.Compare.{compare-gives}
+use Rattle.theory.specs.Kiss2.{saidIn, Imports, import-gives}
+use Rattle.theory.specs.Kiss2Units.{imported-reads-back}
 
 -- the front of an output that w was written to is w; the later bytes stay, and so does the length
 pub record WrittenTo (out left w : List ℕ) : Type 0 where
@@ -140,3 +144,34 @@ module _ (unit : List ℕ) (bound : ℕ) (out left : List ℕ) where
       let (u, d, x, long, wrote, reads) = found-writes n promise in
       sound-builds (take n left) out′ d reads (found-sound u (unit-sized unit u (x .reads) .machine) bound d (x .dossier)) r
       (sym (build-answer (take n left) out′ r left′ builds .0))
+
+module _ (text out left : List ℕ) where
+  -- A refused import changes no byte of its output.
+  pub refused-import-keeps : (r : Refusal) → ReadKiss2Promise text out (ImportRefused r) left → left ≡ out
+  refused-import-keeps r promise =
+      let (answer, output) = import-answer text out (ImportRefused r) left promise in
+      output ∙ elim (settled (readKiss2 text out)) [ inl (w, e) ↦ absurd (different w e answer) | inr (s, e) ↦ rw e ]
+    where
+      different : (w : List ℕ) → readKiss2 text out ≡ fine w → ImportRefused r ≡ readKiss2Answer text out → ⊥
+      different w e h = let z : ImportRefused r ≡ ImportWritten (length w) = rw e at h in let no : _≡_ {A = ℕ} 0 1 = cc in omega arith
+
+  -- What the import answers the length of stands at the front of the output, and later bytes stay. It reads back as the unit that the
+  -- terms of the text say.
+  pub import-writes : (n : ℕ) → ReadKiss2Promise text out (ImportWritten n) left
+      → (u : UnitData) × (u ≡ unitSaid (saidIn text)) × Imports text out × (n ≡ length (unitBytes u)) × WrittenTo out left (unitBytes u) × (readUnit (take n left) ≡ fine u)
+  import-writes n promise =
+      let (answer, output) = import-answer text out (ImportWritten n) left promise in
+      elim (settled (readKiss2 text out)) [
+        | inl (w, e) ↦
+            let u = unitSaid (saidIn text) in
+            let (x, is) = rw e at (import-gives text out) in
+            let count : n ≡ length w = cc (rw e at answer) in
+            let long : n ≡ length (unitBytes u) = count ∙ ap (λ (l : List ℕ). length l) is in
+            let left-is : left ≡ overwritten (unitBytes u) out = rw (e, is) at output in
+            let wrote = written-to out (unitBytes u) (x .fits) in
+            (u, refl, x, long, rw left-is wrote, rw (left-is, long, wrote .front) (imported-reads-back text out x))
+        | inr (r, e) ↦ absurd (different r e answer)
+      ]
+    where
+      different : (r : Refusal) → readKiss2 text out ≡ refuse r → ImportWritten n ≡ readKiss2Answer text out → ⊥
+      different r e h = let z : ImportWritten n ≡ ImportRefused r = rw e at h in let no : _≡_ {A = ℕ} 0 1 = cc in omega arith

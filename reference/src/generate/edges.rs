@@ -1,10 +1,11 @@
-//! Short files that end at a limit of document 01, section "Sizes".
+//! Short files that end at a limit of document 01, section "Sizes", and short texts at the limits of
+//! document 02, L2.
 //!
 //! The number, count, length, input or next state that stands last is at its limit or one step
 //! past it. What would follow does not matter: where it is good, the file is CUT SHORT.
 
 use super::dossiers::{found, with_built_tests};
-use super::{machines, Case};
+use super::{machines, text_case, text_limits, Case};
 use crate::files::write_dossier;
 use crate::sizes::{LONGEST_COVER_WORD, LONGEST_TEST, MOST_EXTRA_STATES, MOST_INPUTS, MOST_STATES};
 
@@ -13,6 +14,9 @@ const NUMBERS: usize = 5;
 
 /// The bytes that numbers and table take where there are two inputs and two states.
 const NUMBERS_AND_TABLE: usize = 15;
+
+/// An output that the unit of each of the texts has room in, but for those of four bits.
+const ROOM_FOR_A_UNIT: usize = 20;
 
 /// A section of words that holds the empty word only.
 const EMPTY_WORD: [u8; 3] = [1, 0, 0];
@@ -25,8 +29,7 @@ pub fn edges() -> Vec<Case> {
         dossier,
         unit,
         sheet,
-        bound: 0,
-        output_length: 0,
+        ..Case::default()
     };
     let dossiers = dossiers(&good).into_iter();
     let dossiers = dossiers.map(|dossier| case(dossier, vec![], vec![]));
@@ -34,7 +37,9 @@ pub fn edges() -> Vec<Case> {
     let units = units.map(|unit| case(good.clone(), unit, vec![]));
     let sheets = words(&[], LONGEST_TEST).into_iter();
     let sheets = sheets.map(|sheet| case(good.clone(), vec![], sheet));
-    dossiers.chain(units).chain(sheets).collect()
+    let texts = text_limits::edges().into_iter();
+    let texts = texts.map(|text| text_case(text, ROOM_FOR_A_UNIT));
+    dossiers.chain(units).chain(sheets).chain(texts).collect()
 }
 
 fn dossiers(good: &[u8]) -> Vec<Vec<u8>> {

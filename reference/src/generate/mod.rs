@@ -11,6 +11,8 @@ mod limits;
 mod machines;
 mod sheets;
 mod tables;
+mod text_limits;
+mod texts;
 mod timed;
 mod units;
 mod worst;
@@ -18,6 +20,7 @@ mod worst;
 pub use dice::Dice;
 pub use edges::edges;
 pub use sheets::wrong_at_the_end;
+pub use text_limits::limits as text_limits;
 pub use timed::{timed, Timed};
 pub use worst::worst;
 
@@ -25,15 +28,17 @@ use crate::build::built_bytes;
 use crate::compare::compared;
 use crate::files::{write_dossier, write_sheet, write_unit, Dossier};
 use crate::find::found_bytes;
+use crate::kiss2::imported_bytes;
 use crate::sizes::{MOST_DOSSIER_BYTES, MOST_SHEET_BYTES};
 
 /// One file of each sort, the bound that find is passed with the unit, and the length of an output;
 /// what each operation is to be tried on.
-#[derive(Clone, Debug, PartialEq, Eq)]
+#[derive(Clone, Debug, Default, PartialEq, Eq)]
 pub struct Case {
     pub dossier: Vec<u8>,
     pub unit: Vec<u8>,
     pub sheet: Vec<u8>,
+    pub text: Vec<u8>,
     pub bound: u8,
     pub output_length: usize,
 }
@@ -86,9 +91,9 @@ pub fn table_cases(seed: u64, number: u64) -> Vec<Case> {
     let case = |dossier, output_length| Case {
         dossier,
         unit: unit.clone(),
-        sheet: Vec::new(),
         bound,
         output_length,
+        ..Case::default()
     };
     let Ok(found) = found_bytes(&unit, bound) else {
         return vec![case(Vec::new(), dice.below(40))];
@@ -101,6 +106,27 @@ pub fn table_cases(seed: u64, number: u64) -> Vec<Case> {
         return vec![tight, case(found, MOST_DOSSIER_BYTES)];
     };
     vec![tight, case(found, built.len()), case(built, 0)]
+}
+
+/// The cases of one text of a seed: as it was written, and damaged by byte, by field and by line;
+/// with an output that the unit just fits, or nearly.
+pub fn text_cases(seed: u64, number: u64) -> [Case; 4] {
+    let mut dice = Dice::new(seed, number);
+    texts::texts(&mut dice).map(|text| {
+        let fitting = imported_bytes(&text).map_or(20, |unit| unit.len());
+        let shorter = dice.below(fitting);
+        let lengths = [fitting, fitting, fitting + 9, fitting - 1, shorter];
+        text_case(text, *dice.pick(&lengths))
+    })
+}
+
+/// The case of a text alone.
+pub fn text_case(text: Vec<u8>, output_length: usize) -> Case {
+    Case {
+        text,
+        output_length,
+        ..Case::default()
+    }
 }
 
 fn case_of(dice: &mut Dice, draft: Dossier) -> Case {
@@ -119,6 +145,7 @@ fn case_of(dice: &mut Dice, draft: Dossier) -> Case {
         sheet,
         bound,
         output_length,
+        ..Case::default()
     }
 }
 

@@ -1,14 +1,14 @@
-//! Dossiers, units, sheets and bare tables to time the operations on: built dossiers of several
+//! Dossiers, units, sheets, bare tables and texts to time the operations on: built dossiers of several
 //! sizes, and the worst that could be thought of.
 
 use super::dossiers::found;
-use super::{machines, sheets, units, worst, Dice};
+use super::{machines, sheets, texts, units, worst, Dice};
 use crate::build::built_tests;
 use crate::files::{write_dossier, write_sheet, write_unit, Dossier};
 use crate::sizes::{MOST_EXTRA_STATES, MOST_STATES};
 
 /// A dossier and what it is, a unit that passes all its tests, a sheet that agrees with all, so
-/// that none is left out, and the golden as a bare table.
+/// that none is left out, and the golden as a bare table and as a text.
 #[derive(Clone)]
 pub struct Timed {
     pub name: String,
@@ -16,6 +16,7 @@ pub struct Timed {
     pub unit: Vec<u8>,
     pub sheet: Vec<u8>,
     pub table: Vec<u8>,
+    pub text: Vec<u8>,
 }
 
 impl Timed {
@@ -24,12 +25,14 @@ impl Timed {
         let mut dice = Dice::new(1, 1);
         let unit = units::largest_equal(&mut dice, dossier);
         let sheet = sheets::shuffled(&mut dice, dossier);
+        let table = dossier.golden.over_states();
         Timed {
             name,
             dossier: write_dossier(dossier),
             unit: write_unit(&unit),
             sheet: write_sheet(&sheet),
-            table: write_unit(&dossier.golden.over_states()),
+            table: write_unit(&table),
+            text: texts::plain(&table),
         }
     }
 }

@@ -1,8 +1,9 @@
-//! Dossiers and tables on which an operation has much to do.
+//! Dossiers, tables and texts on which an operation has much to do.
 
 use super::dossiers::{found, with_built_tests};
 use super::machines;
 use super::sheets;
+use super::text_limits;
 use super::timed::Timed;
 use super::Dice;
 use crate::files::{size_of_words, write_dossier, write_sheet, Dossier};
@@ -23,7 +24,7 @@ pub fn worst() -> Vec<Timed> {
         full_sheet(),
     ];
     let all = [repeats(), latecomers(), others.to_vec(), too_large()];
-    [all.concat(), hard_tables()].concat()
+    [all.concat(), hard_tables(), hard_texts()].concat()
 }
 
 fn timed(name: &str, dossier: &Dossier) -> Timed {
@@ -38,6 +39,19 @@ fn full_sheet() -> Timed {
         sheet: write_sheet(&sheet),
         ..timed("a full sheet", &dossier)
     }
+}
+
+/// The longest texts, beside the smallest dossier.
+fn hard_texts() -> Vec<Timed> {
+    let texts = text_limits::longest().into_iter();
+    let timed = texts.map(|(what, text)| Timed {
+        text,
+        ..timed(
+            &format!("hard text, {what}"),
+            &with_built_tests(one_state(2)),
+        )
+    });
+    timed.collect()
 }
 
 /// Dossiers whose built tests would be far over the size.

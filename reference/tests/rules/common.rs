@@ -55,6 +55,21 @@ pub fn table_g_bytes() -> Vec<u8> {
     hex("02 00 02 02 04 00 00 00 01 00 00 01 01 00")
 }
 
+/// The text of G that stands among the examples.
+pub const TEXT_G: &str = "\
+# The golden G of document 01
+.i 1
+.o 1
+.p 4
+.s 2
+.r low
+0 low low 0
+1 low high 0
+0 high low 1
+1 high high 0
+.e
+";
+
 pub fn in_dossier(byte: usize) -> Place {
     Place {
         file: File::Dossier,

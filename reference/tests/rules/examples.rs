@@ -5,6 +5,7 @@ use reference::build::built_bytes;
 use reference::check::{check, Accepted};
 use reference::find::found_bytes;
 use reference::judge::{judge, JudgeAnswer};
+use reference::kiss2::imported_bytes;
 use reference::line::run_line;
 use std::fs;
 use std::path::Path;
@@ -29,6 +30,36 @@ fn table_is_g_alone() {
     assert_eq!(example("table"), table_g_bytes());
     let found = found_bytes(&example("table"), 3).unwrap();
     assert_eq!(built_bytes(&found), Ok(example("golden")));
+}
+
+/// From a maker's text to the bare table.
+#[test]
+fn text_is_g_in_kiss2() {
+    assert_eq!(example("text"), TEXT_G.as_bytes());
+    assert_eq!(imported_bytes(&example("text")), Ok(example("table")));
+}
+
+/// Each worked text of docs/KISS2.md gives the bytes of the table below it, at the places that it names.
+#[test]
+fn the_texts_of_the_page_on_kiss2_give_their_bytes() {
+    let page = Path::new(env!("CARGO_MANIFEST_DIR")).join("../docs/KISS2.md");
+    let page = fs::read_to_string(page).unwrap();
+    let (worked, _) = page.split_once("## What is refused").unwrap();
+    let worked: Vec<&str> = worked.split("\n### ").skip(1).collect();
+    assert_eq!(worked.len(), 2);
+    for piece in worked {
+        let text = piece.lines().filter_map(|line| line.strip_prefix("    "));
+        let text: String = text.map(|line| format!("{line}\n")).collect();
+        let mut unit = Vec::new();
+        for row in piece.lines().filter_map(|line| line.strip_prefix("| ")) {
+            let cells: Vec<&str> = row.split(" | ").collect();
+            if let Ok(place) = cells[0].parse::<usize>() {
+                assert_eq!(unit.len(), place);
+                unit.extend(hex(&cells[1].replace('`', "")));
+            }
+        }
+        assert_eq!(imported_bytes(text.as_bytes()), Ok(unit));
+    }
 }
 
 /// The answers of G to the six tests, worked out by hand.

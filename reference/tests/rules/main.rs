@@ -5,6 +5,7 @@ mod compared;
 mod definitions;
 mod examples;
 mod found;
+mod kiss2;
 mod packing;
 mod program;
 mod properties;

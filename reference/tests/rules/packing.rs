@@ -7,8 +7,9 @@ use reference::compare::{compare, CompareAnswer};
 use reference::cost::cost;
 use reference::files::{write_dossier, write_sheet, write_unit, Dossier};
 use reference::find::find;
-use reference::generate::{cases, table_cases, Case};
+use reference::generate::{cases, table_cases, text_cases, Case};
 use reference::judge::{judge, JudgeAnswer};
+use reference::kiss2::read_kiss2;
 use reference::machine::{Input, Word};
 use reference::needed::go_through_needed;
 use reference::pack;
@@ -78,6 +79,20 @@ fn worked_values_of_find() {
     assert_eq!(with(&alike, 0, 40), 18 | 2 << 5 | 1 << 8 | 2 << 32);
 }
 
+#[test]
+fn worked_values_of_read_kiss2() {
+    let with = |text: &str, room| pack::read_kiss2(text.as_bytes(), &mut vec![0; room]);
+    assert_eq!(with(TEXT_G, 14), 14 << 8);
+    assert_eq!(with(TEXT_G, 13), 17 | 4 << 5 | 14 << 8);
+    assert_eq!(with("", 13), 19 | 5 << 5 | 1 << 8);
+    assert_eq!(with(&"\n".repeat(65_535), 13), 19 | 5 << 5 | 65_536 << 8);
+    assert_eq!(with(&"\n".repeat(65_536), 13), 1 | 5 << 5);
+    let contradicted = TEXT_G.replace("1 low high 0", "0 low high 0");
+    assert_eq!(with(&contradicted, 13), 20 | 5 << 5 | 8 << 8);
+    let incomplete = TEXT_G.replace("1 high high 0", "0 high low 1");
+    assert_eq!(with(&incomplete, 13), 21 | 5 << 5 | 1 << 8 | 1 << 32);
+}
+
 /// MISSING with three values that differ: cover 1, middle 3a and separator 1 of sixteen inputs.
 #[test]
 fn missing_has_its_own_layout() {
@@ -133,6 +148,7 @@ fn unpacked(packed: u64) -> Unpacked {
         2 => File::Unit,
         3 => File::Sheet,
         4 => File::Output,
+        5 => File::Text,
         6 => File::Number,
         other => panic!("{other} is no file"),
     };
@@ -152,7 +168,7 @@ fn unpacked_missing(packed: u64) -> Refusal {
 }
 
 fn unpacked_refusal(code: u8, file: File, first: usize, second: u8) -> Refusal {
-    use reference::machine::GoldenState;
+    use reference::machine::{GoldenState, UnitState};
     let place = reference::refusal::Place { file, byte: first };
     match code {
         1 => Refusal::TooLong(place),
@@ -180,6 +196,12 @@ fn unpacked_refusal(code: u8, file: File, first: usize, second: u8) -> Refusal {
         18 => Refusal::NotReduced {
             first: GoldenState(first as u8),
             second: GoldenState(second),
+        },
+        19 => Refusal::BadLine { line: first },
+        20 => Refusal::Contradiction { line: first },
+        21 => Refusal::Incomplete {
+            state: UnitState(first as u8),
+            input: Input(second),
         },
         other => panic!("{other} is no code"),
     }
@@ -228,6 +250,11 @@ fn assert_packed(case: &Case) {
     let packed = pack::find(unit, case.bound, &mut output());
     assert_eq!(unpacked(packed), found);
     assert_judge_packed(dossier, &case.sheet);
+    let imported = shaped(read_kiss2(&case.text, &mut output()), |imported| {
+        (true, imported.length, 0)
+    });
+    let packed = pack::read_kiss2(&case.text, &mut output());
+    assert_eq!(unpacked(packed), imported);
 }
 
 fn assert_judge_packed(dossier: &[u8], sheet: &[u8]) {
@@ -249,7 +276,8 @@ fn assert_judge_packed(dossier: &[u8], sheet: &[u8]) {
 #[test]
 fn every_answer_unpacks_to_itself() {
     let tables = (0..600).flat_map(|number| table_cases(202, number));
-    for case in cases(201, 1_500).chain(tables) {
+    let texts = (0..600).flat_map(|number| text_cases(203, number));
+    for case in cases(201, 1_500).chain(tables).chain(texts) {
         assert_packed(&case);
     }
 }

@@ -158,6 +158,32 @@ fn find_writes_the_file_or_leaves_it() {
 }
 
 #[test]
+fn import_writes_the_file_or_leaves_it() {
+    let folder = folder("import");
+    fs::write(folder.join("out"), vec![0xee; 100]).unwrap();
+    for (text, said) in [
+        (".i 1\n.o 1\n- a a\n", "REFUSED 19 BAD LINE, text, line 3\n"),
+        (
+            ".i 1\n.o 1\n- a a 0\n0 a a 1\n",
+            "REFUSED 20 CONTRADICTION, text, line 4\n",
+        ),
+        (
+            ".i 1\n.o 1\n- a b 0\n0 b a 1\n.e",
+            "REFUSED 21 INCOMPLETE, text, state 1, input 1\n",
+        ),
+        (&"x".repeat(65_536), "REFUSED 1 TOO LONG, text, byte 0\n"),
+    ] {
+        fs::write(folder.join("text"), text).unwrap();
+        assert_eq!(line(&folder, &["import", "text", "out"]), said);
+    }
+    assert_eq!(fs::read(folder.join("out")).unwrap(), vec![0xee; 100]);
+    fs::write(folder.join("text"), TEXT_G).unwrap();
+    let imported = "IMPORTED length 14\n";
+    assert_eq!(line(&folder, &["import", "text", "out"]), imported);
+    assert_eq!(fs::read(folder.join("out")).unwrap(), table_g_bytes());
+}
+
+#[test]
 fn a_file_that_cannot_be_written_is_told() {
     let folder = folder("unwritten");
     fs::write(folder.join("old"), dossier_37()).unwrap();
@@ -168,7 +194,7 @@ fn a_file_that_cannot_be_written_is_told() {
 #[test]
 fn wrong_usage_is_told_and_has_status_2() {
     let folder = folder("usage");
-    let wrong: [&[&str]; 9] = [
+    let wrong: [&[&str]; 11] = [
         &[],
         &["run"],
         &["walk", "."],
@@ -178,6 +204,8 @@ fn wrong_usage_is_told_and_has_status_2() {
         &["find", "a", "256", "b"],
         &["find", "a", "+1", "b"],
         &["find", "a", "", "b"],
+        &["import", "a"],
+        &["import", "a", "b", "c"],
     ];
     for arguments in wrong {
         let told = told(&call(&folder, arguments), 2);

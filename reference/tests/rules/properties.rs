@@ -10,8 +10,9 @@ use reference::files::{
     read_dossier, read_sheet, read_unit, write_dossier, write_sheet, write_unit, Dossier,
 };
 use reference::find::{find, found_bytes};
-use reference::generate::{cases, edges, table_cases, Case, Dice};
+use reference::generate::{cases, edges, table_cases, text_cases, Case, Dice};
 use reference::judge::{judge, JudgeAnswer};
+use reference::kiss2::read_kiss2;
 use reference::line::run_line;
 use reference::machine::Word;
 use reference::refusal::{File, Refusal};
@@ -28,6 +29,8 @@ fn the_same_seed_gives_the_same_cases() {
     assert!(once != other);
     assert!(table_cases(301, 1_500) == table_cases(301, 1_500));
     assert!(table_cases(301, 1_500) != table_cases(302, 1_500));
+    assert!(text_cases(301, 7) == text_cases(301, 7));
+    assert!(text_cases(301, 7) != text_cases(302, 7));
 }
 
 /// Catches edges that stand on one side of their limits only: each is CUT SHORT at its end, or has
@@ -435,6 +438,7 @@ fn answers(case: &Case) -> Vec<String> {
         sheet,
         bound,
         output_length,
+        text,
     } = case;
     let mut output = vec![0; *output_length];
     let named = |operation: &str, answer: Result<&str, Refusal>| match answer {
@@ -461,6 +465,7 @@ fn answers(case: &Case) -> Vec<String> {
         named("judge", judged),
         named("cost", cost(dossier).map(|_| "COST")),
         named("find", find(unit, *bound, &mut output).map(|_| "FOUND")),
+        named("import", read_kiss2(text, &mut output).map(|_| "IMPORTED")),
     ]
 }
 
@@ -490,6 +495,8 @@ fn possible_answers() -> BTreeSet<String> {
     add("find", &["FOUND"], &[1, 2, 3, 4, 6, 8, 18], "unit");
     add("find", &[], &[3], "number");
     add("find", &[], &[17], "output");
+    add("import", &["IMPORTED"], &[1, 19, 20, 21], "text");
+    add("import", &[], &[17], "output");
     names
 }
 
@@ -500,7 +507,8 @@ fn possible_answers() -> BTreeSet<String> {
 fn the_generator_meets_every_answer_and_limit() {
     let mut answered: BTreeMap<String, usize> = BTreeMap::new();
     let mut limits: BTreeMap<&str, usize> = BTreeMap::new();
-    for case in cases(313, 5_000) {
+    let texts = (0..1_000).flat_map(|number| text_cases(313, number));
+    for case in cases(313, 5_000).chain(texts) {
         for name in answers(&case) {
             *answered.entry(name).or_insert(0) += 1;
         }

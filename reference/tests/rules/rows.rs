@@ -39,6 +39,11 @@ fn each_kind_of_answer_has_its_rows() {
         ("find", "0 0"),
         ("find", "3 6"),
         ("find", "18 2"),
+        ("import", "0 0"),
+        ("import", "17 4"),
+        ("import", "19 5"),
+        ("import", "20 5"),
+        ("import", "21 5"),
     ];
     for (operation, answer) in others {
         assert!(times(&format!("  pub {operation}-"), &format!("(says {answer} ")) >= 2);

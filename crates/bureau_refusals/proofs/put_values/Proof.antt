@@ -112,6 +112,36 @@ cast-put-two-4 c = search needs
 put-two-requires-2 : tie.Need-put-two-requires-2
 put-two-requires-2 c κs = search needs
 
+enum-known-r-10 : tie.Need-enum-known-r-10
+enum-known-r-10 c = search needs
+
+put-last-requires-6 : tie.Need-put-last-requires-6
+put-last-requires-6 c κs = search needs
+
+enum-known-r-11 : tie.Need-enum-known-r-11
+enum-known-r-11 c = search needs
+
+put-last-requires-7 : tie.Need-put-last-requires-7
+put-last-requires-7 c κs = search needs
+
+enum-known-r-12 : tie.Need-enum-known-r-12
+enum-known-r-12 c = search needs
+
+number-requires-6 : tie.Need-number-requires-6
+number-requires-6 c κs = search needs
+
+cast-put-two-5 : tie.Need-cast-put-two-5
+cast-put-two-5 c = search needs
+
+number-requires-7 : tie.Need-number-requires-7
+number-requires-7 c κs = search needs
+
+cast-put-two-6 : tie.Need-cast-put-two-6
+cast-put-two-6 c = search needs
+
+put-two-requires-3 : tie.Need-put-two-requires-3
+put-two-requires-3 c κs = search needs
+
 same-length : tie.Need-same-length
 same-length c = search needs
 
@@ -190,6 +220,24 @@ same-length-13 c = search needs
 returns-13 : tie.Need-returns-13
 returns-13 c = rw (c .before .before .before .before .before .before .before .r9 .given .1, ← (c .before .before .before .before .before .number4 .ensures), ← (c .before .before .before .before .number5 .ensures)) (c .before .before .put-two2 .ensures)
 
+same-length-14 : tie.Need-same-length-14
+same-length-14 c = search needs
+
+returns-14 : tie.Need-returns-14
+returns-14 c = rw (c .before .before .before .before .before .r10 .given .1) (c .before .before .put-last6 .ensures)
+
+same-length-15 : tie.Need-same-length-15
+same-length-15 c = search needs
+
+returns-15 : tie.Need-returns-15
+returns-15 c = rw (c .before .before .before .before .before .r11 .given .1) (c .before .before .put-last7 .ensures)
+
+same-length-16 : tie.Need-same-length-16
+same-length-16 c = search needs
+
+returns-16 : tie.Need-returns-16
+returns-16 c = rw (c .before .before .before .before .before .before .before .r12 .given .1, ← (c .before .before .before .before .before .number6 .ensures), ← (c .before .before .before .before .number7 .ensures)) (c .before .before .put-two3 .ensures)
+
 pub put-values-spec : {M : Type 1} → statement M
 put-values-spec =
     tie.close
@@ -230,6 +278,16 @@ put-values-spec =
     number-requires-5
     cast-put-two-4
     put-two-requires-2
+    enum-known-r-10
+    put-last-requires-6
+    enum-known-r-11
+    put-last-requires-7
+    enum-known-r-12
+    number-requires-6
+    cast-put-two-5
+    number-requires-7
+    cast-put-two-6
+    put-two-requires-3
     same-length
     returns
     same-length-2
@@ -255,4 +313,10 @@ put-values-spec =
     same-length-12
     returns-12
     same-length-13
-    returns-13)
+    returns-13
+    same-length-14
+    returns-14
+    same-length-15
+    returns-15
+    same-length-16
+    returns-16)

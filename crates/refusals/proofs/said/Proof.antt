@@ -123,6 +123,36 @@ cast-says-6 c = search needs
 says-requires-13 : tie.Need-says-requires-13
 says-requires-13 c κs = search needs
 
+enum-known-r-10 : tie.Need-enum-known-r-10
+enum-known-r-10 c = search needs
+
+says-requires-14 : tie.Need-says-requires-14
+says-requires-14 c κs = search needs
+
+enum-known-r-11 : tie.Need-enum-known-r-11
+enum-known-r-11 c = search needs
+
+says-requires-15 : tie.Need-says-requires-15
+says-requires-15 c κs = search needs
+
+enum-known-r-12 : tie.Need-enum-known-r-12
+enum-known-r-12 c = search needs
+
+number-requires-7 : tie.Need-number-requires-7
+number-requires-7 c κs = search needs
+
+cast-says-7 : tie.Need-cast-says-7
+cast-says-7 c = search needs
+
+number-requires-8 : tie.Need-number-requires-8
+number-requires-8 c κs = search needs
+
+cast-says-8 : tie.Need-cast-says-8
+cast-says-8 c = search needs
+
+says-requires-16 : tie.Need-says-requires-16
+says-requires-16 c κs = search needs
+
 returns : tie.Need-returns
 returns c = rw (c .before .before .before .r .given .1) (let e = c .says .ensures in (e .0 ∙ c .before .number .ensures .0, omega (arith, e .0, c .before .number .ensures .1), e .1, e .2, e .3))
 
@@ -161,6 +191,15 @@ returns-12 c = rw (c .before .before .r8 .given .1) (let e = c .says12 .ensures 
 
 returns-13 : tie.Need-returns-13
 returns-13 c = rw (c .before .before .before .before .r9 .given .1) (let e = c .says13 .ensures in (e .0, omega (arith, e .0), e .1, e .2 ∙ c .before .before .number5 .ensures, e .3 ∙ c .before .number6 .ensures))
+
+returns-14 : tie.Need-returns-14
+returns-14 c = rw (c .before .before .r10 .given .1) (let e = c .says14 .ensures in (e .0, omega (arith, e .0), e .1, e .2, e .3))
+
+returns-15 : tie.Need-returns-15
+returns-15 c = rw (c .before .before .r11 .given .1) (let e = c .says15 .ensures in (e .0, omega (arith, e .0), e .1, e .2, e .3))
+
+returns-16 : tie.Need-returns-16
+returns-16 c = rw (c .before .before .before .before .r12 .given .1) (let e = c .says16 .ensures in (e .0, omega (arith, e .0), e .1, e .2 ∙ c .before .before .number7 .ensures, e .3 ∙ c .before .number8 .ensures))
 
 pub said-spec : {M : Type 1} → statement M
 said-spec =
@@ -204,6 +243,16 @@ said-spec =
     number-requires-6
     cast-says-6
     says-requires-13
+    enum-known-r-10
+    says-requires-14
+    enum-known-r-11
+    says-requires-15
+    enum-known-r-12
+    number-requires-7
+    cast-says-7
+    number-requires-8
+    cast-says-8
+    says-requires-16
     returns
     returns-2
     returns-3
@@ -216,4 +265,7 @@ said-spec =
     returns-10
     returns-11
     returns-12
-    returns-13)
+    returns-13
+    returns-14
+    returns-15
+    returns-16)

@@ -4,9 +4,10 @@ use reference::build::built_bytes;
 use reference::files::{read_dossier, write_dossier, write_sheet, write_unit};
 use reference::find::found_bytes;
 use reference::generate::{
-    edges, limit_case, plain_case, table_cases, with_damaged_dossier, with_thrown_dossier, worst,
-    wrong_at_the_end, Case, Dice,
+    edges, limit_case, plain_case, table_cases, text_case, text_cases, text_limits,
+    with_damaged_dossier, with_thrown_dossier, worst, wrong_at_the_end, Case, Dice,
 };
+use reference::kiss2::imported_bytes;
 use reference::sizes::{MOST_DOSSIER_BYTES, MOST_SHEET_BYTES};
 use reference::worked;
 use std::fmt::{self, Display, Formatter};
@@ -42,16 +43,22 @@ const DRAFTS_FOR_A_LIMIT: u64 = 100;
 /// How many seeded cases there are for each bare table of the seed.
 const CASES_FOR_A_TABLE: usize = 10;
 
+/// How many seeded cases there are for each text of the seed, of which four are made.
+const CASES_FOR_A_TEXT: usize = 20;
+
 /// All cases, the seeded ones last. Each kind is made when it is asked for: a difference that is
 /// found early need not wait for the rest.
 pub fn all(seed: u64, count: usize, examples: &Path) -> io::Result<impl Iterator<Item = Tried>> {
     let example = read_example(examples)?;
+    let text = std::fs::read(examples.join("text"))?;
     let worked = worked_cases(&example);
     let damaged = worked.clone().into_iter().flat_map(damaged_dossiers);
     let roomy = worked.clone().into_iter().flat_map(rooms);
     let tables = worked_tables(&example);
     let bounds = tables.clone().into_iter().flat_map(all_bounds);
     let roomy_tables = tables.into_iter().flat_map(rooms_to_find);
+    let texts = damaged_texts(&text).into_iter().chain(text_limits());
+    let texts = texts.enumerate().map(text_with_room_in_turn);
     let fixed = numbered("worked file", worked)
         .chain(numbered("damage to a worked file", damaged))
         .chain(numbered("damage to a unit", damaged_units(&example)))
@@ -60,17 +67,22 @@ pub fn all(seed: u64, count: usize, examples: &Path) -> io::Result<impl Iterator
         .chain(numbered("length", lengths(&example)))
         .chain(numbered("output", roomy))
         .chain(numbered("bound", bounds))
-        .chain(numbered("output of find", roomy_tables));
+        .chain(numbered("output of find", roomy_tables))
+        .chain(numbered("output of a text", rooms_to_import(&text)))
+        .chain(numbered("text", texts));
     let worst = once_with(move || worst_cases(&example)).flatten();
     let judged = worst.clone().flat_map(large_sheets);
     let worst = worst.flat_map(tight_rooms);
     let seeded = (0..).flat_map(move |draft| made_of_one(seed, draft));
     let tables = 0..(count / CASES_FOR_A_TABLE) as u64;
     let tables = tables.flat_map(move |number| table_cases(seed, number));
+    let drafts = 0..(count / CASES_FOR_A_TEXT) as u64;
+    let written = drafts.flat_map(move |number| text_cases(seed, number));
     Ok(fixed
         .chain(numbered("worst dossier", worst))
         .chain(numbered("large sheet", judged))
         .chain(numbered("bare table", tables))
+        .chain(numbered("seeded text", written))
         .chain(numbered("seeded case", seeded.take(count))))
 }
 
@@ -91,8 +103,8 @@ fn read_example(folder: &Path) -> io::Result<Case> {
         dossier: read("golden")?,
         unit: read("unit")?,
         sheet: read("sheet")?,
-        bound: 0,
         output_length: MOST_DOSSIER_BYTES,
+        ..Case::default()
     })
 }
 
@@ -180,6 +192,46 @@ fn damaged_sheets(case: &Case) -> Vec<Case> {
     files.map(|file| with_sheet(case, file)).collect()
 }
 
+/// The text with each byte changed, and with each line dropped, doubled and exchanged with another.
+fn damaged_texts(text: &[u8]) -> Vec<Vec<u8>> {
+    let lines: Vec<&[u8]> = text.split_inclusive(|&byte| byte == b'\n').collect();
+    let mut texts = all_damage(text);
+    for (place, line) in lines.iter().enumerate() {
+        texts.push([&lines[..place], &lines[place + 1..]].concat().concat());
+        texts.push(
+            [&lines[..place], &[line], &lines[place..]]
+                .concat()
+                .concat(),
+        );
+        for other in 0..place {
+            let mut exchanged = lines.clone();
+            exchanged.swap(place, other);
+            texts.push(exchanged.concat());
+        }
+    }
+    texts
+}
+
+/// The bytes that the unit of a text takes; some others where it has none.
+fn imported_length(text: &[u8]) -> usize {
+    imported_bytes(text).map_or(20, |unit| unit.len())
+}
+
+/// An output that the unit just fits, a longer one, one that is a byte short, and none.
+fn text_with_room_in_turn((number, text): (usize, Vec<u8>)) -> Case {
+    let fitting = imported_length(&text);
+    let lengths = [fitting, fitting + 9, fitting - 1, 0];
+    text_case(text, lengths[number % lengths.len()])
+}
+
+/// The text with outputs of every length up to some more than its unit takes.
+fn rooms_to_import(text: &[u8]) -> Vec<Case> {
+    let lengths = 0..imported_length(text) + 4;
+    lengths
+        .map(|length| text_case(text.to_vec(), length))
+        .collect()
+}
+
 /// Sheets of the case's dossier with one thing wrong at their end.
 fn large_sheets(case: Case) -> Vec<Case> {
     let Ok(dossier) = read_dossier(&case.dossier) else {
@@ -255,6 +307,7 @@ fn worst_cases(case: &Case) -> Vec<Case> {
         dossier: timed.dossier,
         unit: timed.unit,
         sheet: timed.sheet,
+        text: timed.text,
         ..case.clone()
     });
     cases.collect()

@@ -17,6 +17,7 @@ const DOSSIER: u64 = 1;
 const UNIT: u64 = 2;
 const SHEET: u64 = 3;
 const OUTPUT: u64 = 4;
+const TEXT: u64 = 5;
 const NUMBER: u64 = 6;
 
 /// A file that answers concern, and their codes.
@@ -43,11 +44,13 @@ const NOT_RUN: &[u64] = &[1, 2, 3, 4, 6, 15, 16];
 
 const NOT_FOUND: &[u64] = &[1, 2, 3, 4, 6, 8, 18];
 
+const NOT_IMPORTED: &[u64] = &[1, 19, 20, 21];
+
 /// A sheet has no numbers and no table.
 const NOT_JUDGED: &[u64] = &[1, 2, 5, 6, 12, 13, 14];
 
 /// Each in the place of its number in the driver.
-pub const OPERATIONS: [Operation; 8] = [
+pub const OPERATIONS: [Operation; 9] = [
     Operation {
         name: "check",
         lent: dossier_alone,
@@ -114,6 +117,12 @@ pub const OPERATIONS: [Operation; 8] = [
             (OUTPUT, &[17]),
         ],
     },
+    Operation {
+        name: "read_kiss2",
+        lent: text_and_output,
+        answer: |lent, output| pack::read_kiss2(lent.first, output),
+        answers: &[(NO_FILE, &[0]), (TEXT, NOT_IMPORTED), (OUTPUT, &[17])],
+    },
 ];
 
 fn dossier_alone(case: &Case) -> Lent<'_> {
@@ -158,6 +167,15 @@ fn unit_bound_and_output(case: &Case) -> Lent<'_> {
         first: &case.unit,
         second: &[],
         number: case.bound,
+        output_length: case.output_length,
+    }
+}
+
+fn text_and_output(case: &Case) -> Lent<'_> {
+    Lent {
+        first: &case.text,
+        second: &[],
+        number: 0,
         output_length: case.output_length,
     }
 }

@@ -5,7 +5,7 @@ use crate::operation::Operation;
 use crate::row::{rows_of, Row};
 use crate::said::Kind;
 use reference::files::{read_dossier, read_unit, Unit};
-use reference::generate::{edges, plain_case, Case};
+use reference::generate::{edges, plain_case, text_cases, Case};
 use reference::needed::middles;
 use std::collections::{BTreeMap, HashSet};
 
@@ -17,6 +17,7 @@ const MOST_CASES: u64 = 100_000;
 const LONGEST_DOSSIER: usize = 90;
 const LONGEST_UNIT: usize = 60;
 const LONGEST_SHEET: usize = 120;
+const LONGEST_TEXT: usize = 64;
 const LONGEST_OUTPUT: usize = 120;
 
 /// The most needed words, and the most words among which a telling or an access word is looked for.
@@ -34,8 +35,9 @@ pub fn chosen(seed: u64, count: usize) -> Result<Vec<Row>, String> {
             .next()
             .ok_or_else(|| format!("too few rows of {operation:?} with {kind:?}"))?;
         let case = plain_case(seed, number);
-        if is_small(&case) {
-            choice.take_wanted(rows_of(&number.to_string(), &case));
+        choice.take_small(&number.to_string(), &case);
+        for (place, case) in text_cases(seed, number).iter().enumerate() {
+            choice.take_small(&format!("{number}-{place}"), case);
         }
     }
     Ok(choice.rows)
@@ -75,6 +77,12 @@ impl Choice {
         }
     }
 
+    fn take_small(&mut self, name: &str, case: &Case) {
+        if is_small(case) {
+            self.take_wanted(rows_of(name, case));
+        }
+    }
+
     fn take_wanted(&mut self, rows: Vec<Row>) {
         for row in rows {
             let kind = (row.operation, row.kind);
@@ -99,6 +107,7 @@ fn is_small(case: &Case) -> bool {
     case.dossier.len() <= LONGEST_DOSSIER
         && case.unit.len() <= LONGEST_UNIT
         && case.sheet.len() <= LONGEST_SHEET
+        && case.text.len() <= LONGEST_TEXT
         && case.output_length <= LONGEST_OUTPUT
         && goes_through_few_words(case)
 }

@@ -12,12 +12,13 @@ use Prim.Native.Nat.{ℕ}
 use mathlib.Core.Path.{_≡_, refl}
 use mathlib.Core.List.{List, [], _∷_, flatMap}
 use Rattle.rules.specs.Words.{wordsOf, shortlex}
-use Rattle.rules.specs.Files.{countBytes, outputBytes, entryBytes, tableBytes, wordBytes, wordsBytes, frontBytes, dossierBytes}
+use Rattle.rules.specs.Files.{countBytes, outputBytes, entryBytes, tableBytes, wordBytes, wordsBytes, frontBytes, dossierBytes, unitBytes}
 use Rattle.rules.specs.Reading.{byte, judged, count, many, word, words, output, entry, table, sheetRecord, ending, dossier, unitTable, sheet}
 use Rattle.rules.specs.Needed.{middles, needed, unreached, pairs, unseparated, missing, maximalOf, builtTests}
-use Rattle.rules.specs.Answers.{Said, checkSays, buildSays, runSays, compareSays, judgeSays, costSays, findSays}
+use Rattle.rules.specs.Answers.{Said, checkSays, buildSays, runSays, compareSays, judgeSays, costSays, findSays, importSays}
 use Rattle.rules.specs.Operations.{Part, readFile, sound, enough, check, checkAnswer, build, buildAnswer, buildOutput, run, runAnswer, telling, compare, compareAnswer, compareOutput, repeated, foreign, absent, pair, judge, judgeAnswer, testPart, judgedPart, costAnswer}
 use Rattle.rules.specs.Find.{accessWord, tellingWord, unreachable, untold, foundCover, foundSeparating, find, findAnswer, findOutput}
+use Rattle.rules.specs.Kiss2.{linesOf, fieldsOf, lineSays, opened, outputValue, readLines, isWhole, stateNames, silent, unitSaid, readKiss2, readKiss2Answer, readKiss2Output}
 use Rattle.rules.specs.Line.{decimal, runLine}
 
 abbrev says : ℕ → ℕ → List ℕ → Said
@@ -47,10 +48,13 @@ Costs bytes r = costSays (costAnswer bytes) ≡ r
 
 abbrev Finds : List ℕ → ℕ → List ℕ → Said → List ℕ → Type 0
 Finds bytes bound out r left = (findSays (findAnswer bytes bound out) ≡ r) × (findOutput bytes bound out ≡ left)
+
+abbrev Imports : List ℕ → List ℕ → Said → List ℕ → Type 0
+Imports text out r left = (importSays (readKiss2Answer text out) ≡ r) × (readKiss2Output text out ≡ left)
 ";
 
 /// The definitions that the prover computes with, as in the rules' own table of worked pieces.
-const UNFOLDING: &str = "unfolding flatMap wordsOf shortlex countBytes outputBytes entryBytes tableBytes wordBytes wordsBytes frontBytes dossierBytes byte judged count many word words output entry table sheetRecord ending dossier unitTable sheet middles needed unreached pairs unseparated missing maximalOf builtTests readFile sound enough check build run telling compare accessWord tellingWord unreachable untold foundCover foundSeparating find repeated foreign absent pair judge testPart decimal runLine";
+const UNFOLDING: &str = "unfolding flatMap wordsOf shortlex countBytes outputBytes entryBytes tableBytes wordBytes wordsBytes frontBytes dossierBytes unitBytes byte judged count many word words output entry table sheetRecord ending dossier unitTable sheet middles needed unreached pairs unseparated missing maximalOf builtTests readFile sound enough check build run telling compare accessWord tellingWord unreachable untold foundCover foundSeparating find linesOf fieldsOf lineSays opened outputValue readLines isWhole stateNames silent unitSaid readKiss2 repeated foreign absent pair judge testPart decimal runLine";
 
 /// The rows in tables, each with its proof.
 pub fn module(rows: &[Row]) -> String {

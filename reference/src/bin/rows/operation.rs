@@ -12,6 +12,7 @@ pub enum Operation {
     Judge,
     Cost,
     Find,
+    Import,
 }
 
 // The numbers of the files, as the rules have them. A verdict concerns none.
@@ -20,10 +21,11 @@ const DOSSIER: u8 = 1;
 const UNIT: u8 = 2;
 const SHEET: u8 = 3;
 const OUTPUT: u8 = 4;
+const TEXT: u8 = 5;
 const NUMBER: u8 = 6;
 
 impl Operation {
-    pub const ALL: [Operation; 7] = [
+    pub const ALL: [Operation; 8] = [
         Operation::Check,
         Operation::Build,
         Operation::Run,
@@ -31,6 +33,7 @@ impl Operation {
         Operation::Judge,
         Operation::Cost,
         Operation::Find,
+        Operation::Import,
     ];
 
     /// What the names of its rows begin with.
@@ -43,6 +46,7 @@ impl Operation {
             Operation::Judge => "judge",
             Operation::Cost => "cost",
             Operation::Find => "find",
+            Operation::Import => "import",
         }
     }
 
@@ -85,6 +89,7 @@ impl Operation {
                 (NUMBER, &[3]),
                 (OUTPUT, &[17]),
             ],
+            Operation::Import => &[(NONE, &[0]), (TEXT, &[19, 20, 21]), (OUTPUT, &[17])],
         }
     }
 }

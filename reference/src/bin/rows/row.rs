@@ -9,6 +9,7 @@ use reference::cost::cost;
 use reference::find::find;
 use reference::generate::Case;
 use reference::judge::{judge, JudgeAnswer};
+use reference::kiss2::read_kiss2;
 use reference::line::run_line;
 use reference::run::run;
 
@@ -36,6 +37,7 @@ pub fn rows_of(name: &str, case: &Case) -> Vec<Row> {
             Operation::Judge => judges(case),
             Operation::Cost => costs(case),
             Operation::Find => finds(case),
+            Operation::Import => imports(case),
         };
         Row {
             name: format!("{}-{name}", operation.name()),
@@ -112,6 +114,15 @@ fn finds(case: &Case) -> Stated {
         says(&answer),
         list(&after)
     );
+    (answer, statement, TWO)
+}
+
+fn imports(case: &Case) -> Stated {
+    let before = output(case);
+    let mut after = before.clone();
+    let answer = said(read_kiss2(&case.text, &mut after));
+    let files = lists([&case.text, &before]);
+    let statement = format!("Imports {files} {} {}", says(&answer), list(&after));
     (answer, statement, TWO)
 }
 

@@ -6,6 +6,7 @@ use reference::compare::CompareAnswer;
 use reference::cost::Cost;
 use reference::find::Found;
 use reference::judge::JudgeAnswer;
+use reference::kiss2::Imported;
 use reference::machine::Input;
 use reference::refusal::{File, Refusal};
 use reference::run::RunAnswer;
@@ -95,6 +96,12 @@ impl From<Found> for Said {
     }
 }
 
+impl From<Imported> for Said {
+    fn from(imported: Imported) -> Said {
+        verdict(GOOD, &[imported.length])
+    }
+}
+
 impl From<Refusal> for Said {
     fn from(refusal: Refusal) -> Said {
         let kind = Kind {
@@ -112,6 +119,7 @@ fn file_number(file: File) -> u8 {
         File::Unit => 2,
         File::Sheet => 3,
         File::Output => 4,
+        File::Text => 5,
         File::Number => 6,
     }
 }
@@ -131,6 +139,10 @@ fn values(refusal: &Refusal) -> Vec<usize> {
         Refusal::Repeated { record } | Refusal::Foreign { record } => vec![*record],
         Refusal::Absent { test } => vec![*test],
         Refusal::NoRoom { needed } => vec![*needed],
+        Refusal::BadLine { line } | Refusal::Contradiction { line } => vec![*line],
+        Refusal::Incomplete { state, input } => {
+            vec![usize::from(state.0), usize::from(input.0)]
+        }
         other => other.place().map(|place| place.byte).into_iter().collect(),
     }
 }

@@ -1,4 +1,4 @@
-//! Writes the dossiers, units, sheets and tables to time the operations on.
+//! Writes the dossiers, units, sheets, tables and texts to time the operations on.
 
 use reference::generate::timed;
 use std::fs;
@@ -7,8 +7,8 @@ use std::path::Path;
 use std::process::ExitCode;
 
 const USAGE: &str = "\
-usage: timed FOLDER   write each dossier, its unit, its sheet and its table to files of the folder, and
-                      print the name of the dossier and the four paths, a line each
+usage: timed FOLDER   write each dossier, its unit, its sheet, its table and its text to files of the
+                      folder, and print the name of the dossier and the five paths, a line each
 ";
 
 fn main() -> ExitCode {
@@ -36,6 +36,7 @@ fn write_all(folder: &Path) -> io::Result<()> {
             ("unit", &timed.unit),
             ("sheet", &timed.sheet),
             ("table", &timed.table),
+            ("text", &timed.text),
         ];
         for (sort, bytes) in files {
             let path = folder.join(format!("{sort}-{number}"));

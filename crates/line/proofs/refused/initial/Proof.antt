@@ -17,6 +17,9 @@ enum-told-4 c = search needs
 enum-told-5 : tie.Need-enum-told-5
 enum-told-5 c = search needs
 
+enum-told-6 : tie.Need-enum-told-6
+enum-told-6 c = search needs
+
 returns : tie.Need-returns
 returns c = rw (c .enum-told .given .1)
 
@@ -32,7 +35,10 @@ returns-4 c = rw (c .enum-told4 .given .1)
 returns-5 : tie.Need-returns-5
 returns-5 c = rw (c .enum-told5 .given .1)
 
+returns-6 : tie.Need-returns-6
+returns-6 c = rw (c .enum-told6 .given .1)
+
 pub initial-spec : {M : Type 1} → statement M
 initial-spec =
     tie.close
-    (tie.spec enum-told enum-told-2 enum-told-3 enum-told-4 enum-told-5 returns returns-2 returns-3 returns-4 returns-5)
+    (tie.spec enum-told enum-told-2 enum-told-3 enum-told-4 enum-told-5 enum-told-6 returns returns-2 returns-3 returns-4 returns-5 returns-6)

@@ -1,0 +1,4 @@
+pub mod Following
+pub mod TwoNames
+pub mod OneTerm
+pub mod AllLines

@@ -1,0 +1,4 @@
+pub mod Held
+pub mod Both
+pub mod Terms
+pub mod Lines

@@ -1,0 +1,3 @@
+pub mod Directives
+pub mod Fields
+pub mod Said

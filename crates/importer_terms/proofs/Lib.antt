@@ -1,0 +1,4 @@
+pub mod Bits
+pub mod Differing
+pub mod Naming
+pub mod Entering

@@ -1,0 +1,3 @@
+pub mod Silences
+pub mod Holding
+pub mod Inverse
