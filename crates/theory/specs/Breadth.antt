@@ -5,7 +5,7 @@
 use Rattle.std.specs.Prelude.{ℕ, suc, ◌+◌, ◌*◌, ◌≤◌, ◌<◌, ◌≡◌, refl, ◌≢◌, [], ◌∷◌, ◌++◌}
 use Rattle.std.proofs.Common.{arith, sym, ap, ◌∙◌, inl, inr, append_assoc, append-nil}
 use Rattle.std.proofs.Math.Decide.{ℕ_discrete, dec_lt}
-use Rattle.std.proofs.Math.Logic.{Dec·not}
+use Rattle.std.proofs.Math.Logic.Dec
 use Rattle.rules.specs.Sizes.{most_inputs}
 use Rattle.rules.specs.Words.{Word, Valid}
 use Rattle.rules.specs.Machines.{Machine, Complete, after}
@@ -214,7 +214,7 @@ module _ (k : ℕ) (M : Machine) (few : k ≤ most_inputs) (state : ℕ → ℕ)
         any? q = yes tt
 
         other? : (q : ℕ) → Dec (q ≢ p)
-        other? q = Dec·not (ℕ_discrete q p)
+        other? q = Dec.not (ℕ_discrete q p)
 
         state_small : (j : ℕ) → j < tail → state j < M.states
         state_small j in_j = rw (← (s.leads j in_j)) (after_small complete 0 (word j) complete.start (s.valid j in_j))

@@ -4,7 +4,7 @@
 -- does.
 use Rattle.std.specs.Prelude.{◌≡◌, refl, ◌≢◌, ◌⊎◌, ℕ, zero, suc, ◌+◌, ◌-◌, ◌≤◌, ◌<◌, length}
 use Rattle.std.proofs.Common.{sym, ◌∙◌, inl, inr, arith}
-use Rattle.std.proofs.Math.Logic.{Dec·not}
+use Rattle.std.proofs.Math.Logic.Dec
 use mathlib.Core.List.{[], ◌∷◌, List-discrete}
 use Rattle.std.proofs.Math.Decide.{ℕ_discrete, dec_le, dec_lt}
 use Rattle.rules.specs.Words.{Word, Valid, shortlex}
@@ -25,7 +25,7 @@ ToldWithin k M i p q = (w : Word) × Valid k w × (length w ≤ i) × (answer_fr
 -- One or the other, as there are only so many such words.
 alike_or_apart : (k : ℕ) (M : Machine) (i p q : ℕ) → Alike k M i p q ⊎ ToldWithin k M i p q
 alike_or_apart k M i p q =
-    elim (some_in (λ w. Dec·not (same? w)) (shortlex k i)) [
+    elim (some_in (λ w. Dec.not (same? w)) (shortlex k i)) [
       | yes (w, in_w, differ) ↦ let (v, short) = (in_shortlex k i w).0 in_w in inr (w, v, short, differ)
       | no none ↦ inl (λ w v short. elim (same? w) [ yes e ↦ e | no ne ↦ absurd (none (w, (in_shortlex k i w).1 (v, short), ne)) ])
     ]
@@ -143,7 +143,7 @@ module _ {k : ℕ} {M : Machine} (complete : Complete k M) where
         omega (arith, pairs M.states, total_more suc _ _ not_reps)
       where
         other? : (q : ℕ) → Dec (¬ Rep r q)
-        other? q = Dec·not (rep? r q)
+        other? q = Dec.not (rep? r q)
 
         pairs : (u : ℕ) → total (λ q. count (λ p. alike? k M r p q) q) u ≤ total suc (count other? u)
         pairs zero = omega arith

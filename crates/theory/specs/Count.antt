@@ -3,7 +3,7 @@
 -- at least n; a bounded sequence stops growing.
 use Rattle.std.specs.Prelude.{◌≡◌, refl, ◌≢◌, ◌⊎◌, ℕ, zero, suc, ◌+◌, ◌≤◌, ◌<◌}
 use Rattle.std.proofs.Common.{inl, inr, arith}
-use Rattle.std.proofs.Math.Logic.{Dec·not, Dec·and}
+use Rattle.std.proofs.Math.Logic.Dec
 use Rattle.std.proofs.Math.Decide.{dec_le, ℕ_discrete}
 
 -- What holds below `u`, and of `u`, holds below `suc u`.
@@ -85,7 +85,7 @@ module _ {P Q : ℕ → Type 0} (dec_p : (q : ℕ) → Dec (P q)) (dec_q : (q : 
 
 -- The property, but not of the number `a`.
 without : {P : ℕ → Type 0} → ((q : ℕ) → Dec (P q)) → (a q : ℕ) → Dec (P q × (q ≢ a))
-without dec a q = Dec·and (dec q) (Dec·not (ℕ_discrete q a))
+without dec a q = Dec.and (dec q) (Dec.not (ℕ_discrete q a))
 
 -- At least `n` numbers below `u` have the property, if `f` gives one for each number below `n` and no two the same.
 pub pigeonhole : {P : ℕ → Type 0} (dec : (q : ℕ) → Dec (P q)) (u n : ℕ) (f : (i : ℕ) → i < n → ℕ)

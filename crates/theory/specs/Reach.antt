@@ -1,7 +1,8 @@
 -- The counting lemma: of u states, of which all but d are starting states, d steps reach whatever any number of steps reaches.
 -- It is about numbers and a `next` of them, and about no machine.
 use Rattle.std.specs.Prelude.{◌≡◌, refl, ◌⊎◌, ℕ, zero, suc, ◌+◌, ◌≤◌, ◌<◌}
-use Rattle.std.proofs.Math.Logic.{inl, inr, Dec·and}
+use Rattle.std.proofs.Math.Logic.{inl, inr}
+use Rattle.std.proofs.Math.Logic.Dec
 use Rattle.std.proofs.Common.{⊎_elim}
 use Rattle.std.proofs.Math.Decide.{ℕ_discrete}
 use native.Mathlib.Omega.{arith}
@@ -38,7 +39,7 @@ module _ (u k : ℕ) (next : ℕ → ℕ → ℕ) (next_small : (q a : ℕ) → 
 
   within? : (i q : ℕ) → Dec (R i q)
   within? zero q = start? q
-  within? (suc i) q = either (within? i q) (some_below (λ p. some_below (λ a. Dec·and (within? i p) (ℕ_discrete (next p a) q)) k) u)
+  within? (suc i) q = either (within? i q) (some_below (λ p. some_below (λ a. Dec.and (within? i p) (ℕ_discrete (next p a) q)) k) u)
 
   within_small : (i q : ℕ) → R i q → q < u
   within_small zero q r = start_small q r
