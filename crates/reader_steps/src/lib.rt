@@ -1,5 +1,7 @@
 // The steps by which the three files are read (document 01, "The three files" and the refusals 2 and 5): bytes, counts, inputs,
 // outputs, words and sections of words. What the answers mean stands in specs/Steps.antt.
+#![tactic(auto)]
+
 use rules::Fault;
 
 mod steps;

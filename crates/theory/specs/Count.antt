@@ -93,12 +93,12 @@ pub pigeonhole : {P : ℕ → Type 0} (dec : (q : ℕ) → Dec (P q)) (u n : ℕ
     → ((i : ℕ) (h : i < n) → P (f i h))
     → ((i j : ℕ) (h : i < n) (k : j < n) → f i h ≡ f j k → i ≡ j)
     → n ≤ count dec u
-pigeonhole dec u zero f small has inj = omega arith
-pigeonhole dec u (suc n) f small has inj =
+pigeonhole {P = P} dec u zero f small has inj = omega arith
+pigeonhole {P = P} dec u (suc n) f small has inj =
     let last : n < suc n = omega arith in
     let up : (i : ℕ) → i < n → i < suc n = λ i h. omega arith in
     let others : n ≤ count (without dec (f n last)) u =
-    pigeonhole (without dec (f n last)) u n (λ i h. f i (up i h)) (λ i h. small i (up i h))
+    pigeonhole {P = λ q. P q × (q ≢ f n last)} (without dec (f n last)) u n (λ i h. f i (up i h)) (λ i h. small i (up i h))
     (λ i h. (has i (up i h), λ e. omega (arith, inj i n (up i h) last e)))
     (λ i j h k. inj i j (up i h) (up j k)) in
     omega (arith, count_less (without dec (f n last)) dec (λ q p. p.0) (f n last) (λ p. p.1 refl) (has n last) u (small n last))

@@ -1,16 +1,17 @@
 -- Document 02, L2, "Read KISS2": lines that are skipped change no answer but the numbers of lines.
 use Rattle.std.specs.Prelude.{ℕ, suc, ◌≤◌, ◌≡◌, ◌⊎◌, Bool, true, false, not, length}
-use Rattle.std.proofs.Common.{arith, sym, ap, ◌∙◌, inl, inr, true≢false, le-leb}
+use Rattle.std.proofs.Common.{eqb, leb, ◌&&◌, arith, sym, ap, ◌∙◌, inl, inr, true≢false, le-leb}
 use Rattle.std.proofs.Math.Path.{refl}
 use mathlib.Core.List.{List, [], ◌∷◌, ◌++◌, map, flat_map, append-nil}
 use Rattle.rules.specs.declared.Refusal.{Refusal}
 use Rattle.rules.specs.declared.Refusal.TheVariants.{BadLine, Contradiction, Incomplete}
-use Rattle.rules.specs.Lists.{keep}
+use Rattle.rules.specs.Lists.{keep, any, all}
+use Rattle.rules.specs.Sizes.{most_states}
 use Rattle.rules.specs.Files.{unit_bytes}
 use Rattle.rules.specs.Answers.{unit_state, input_of, number_of as number_of_refusal}
 use Rattle.rules.specs.Line.{text}
 use Rattle.rules.specs.Operations.{Outcome, fine, refuse, ◌>>=◌, ◌>>◌, require, require_none, fits}
-use Rattle.rules.specs.Kiss2.{Says, skipped, number, reset, term, end, bad, most_text_bytes, lines_of, line_says, number_of, reset_of, term_of, ended, names_in, may_follow, contradicts, state_names, silent, unit_said, is_whole, read_lines, read_kiss2}
+use Rattle.rules.specs.Kiss2.{Field, Says, terms_in, numbers_in, skipped, number, reset, term, end, bad, most_text_bytes, lines_of, line_says, number_of, reset_of, term_of, ended, names_in, may_follow, contradicts, state_names, silent, unit_said, is_whole, read_lines, read_kiss2}
 use Rattle.theory.specs.Lists.{outcome}
 use Rattle.theory.specs.Maximal.{keep_append}
 use Rattle.theory.specs.Kiss2Lines.{names_last}
@@ -67,6 +68,12 @@ follow_unskipped before (term t) =
     let names : names_in (unskipped before ++ (term t ∷ [])) ≡ names_in (before ++ (term t ∷ [])) =
     names_last (unskipped before) (term t) ∙ rw (terms, resets) (sym (names_last before (term t)))
     in
+    let room : List Field → Bool =
+    λ names.
+        not (ended before) && any (eqb (length t.cube)) (numbers_in (text ".i") before) && any (eqb (length t.output)) (numbers_in (text ".o") before)
+        && all (leb (suc (length (terms_in before)))) (numbers_in (text ".p") before)
+        && all (leb (length names)) (most_states ∷ numbers_in (text ".s") before)
+    in
     rw (
       ended-unskipped before,
       flat_map_unskipped (number_of (text ".i")) refl before,
@@ -74,8 +81,8 @@ follow_unskipped before (term t) =
       flat_map_unskipped (number_of (text ".p")) refl before,
       flat_map_unskipped (number_of (text ".s")) refl before,
       terms,
-      names,
     )
+    (ap room names)
 follow_unskipped before end = rw (ended-unskipped before)
 follow_unskipped before bad = refl
 

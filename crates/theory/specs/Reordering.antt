@@ -78,6 +78,7 @@ times_append r (e ∷ a) b =
 
 -- a member splits the list where it stands
 split : {r : SheetRecord} {rs : List SheetRecord} → r ∈ rs → (a b : List SheetRecord) × (rs ≡ a ++ (r ∷ b))
+split {r = r} {rs = []} m = elim m [ ]
 split {r} {rs = e ∷ rs} (Memᴰ.head h) = ([], rs, cc)
 split {r} {rs = e ∷ rs} (Memᴰ.tail m) = let (a, b, h) = split m in (e ∷ a, b, cc)
 
