@@ -1,4 +1,6 @@
 // The builder of test sections (document 01, "Build").
+#![tactic(auto)]
+
 mod answer;
 
 pub use answer::build;

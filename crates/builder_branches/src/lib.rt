@@ -1,5 +1,7 @@
 // What is needed behind the word of a node: middles, and the separating words behind each. The mark of a node is one more
 // than the length of the middles that were put in behind its word, so that no branch is grown twice.
+#![tactic(auto)]
+
 ghost use Rattle.std.specs.Prelude.{◌≡◌, ℕ, ◌<◌, length};
 ghost use Rattle.rules.specs.Words.{Word};
 ghost use Rattle.trie.specs.Model.{Trie, size, word_of};

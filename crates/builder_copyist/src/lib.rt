@@ -1,4 +1,6 @@
 // The built dossier over a trie of the needed words, measured and then written (document 01, "Build" and refusal 17).
+#![tactic(auto)]
+
 ghost use Rattle.rules.specs.Promises.{BuildPromise};
 ghost use Rattle.builder_copyist.specs.Ready.{Planted};
 

@@ -1,6 +1,8 @@
 // The bureau's program: `check D`, `build D OUT`, `run D U`, `compare D U`, `judge D S`, `cost D`, `find U BOUND OUT` and
 // `import T U`, with the names of files and a number. It reads them, asks for the line of the operation, and prints it
 // (docs/LINES.md).
+#![tactic(auto)]
+
 ghost use Rattle.std.specs.Prelude.{◌≡◌, [], ◌∷◌, ◌≤◌, length};
 ghost use Rattle.io.specs.Counts.{IsPrefixLen};
 ghost use Rattle.line.specs.Lines.{line_room};

@@ -1,4 +1,6 @@
 // The line of each operation (docs/LINES.md): the answer of documents 01 and 02, and every value that it has.
+#![tactic(auto)]
+
 mod plain;
 
 ghost use Rattle.std.specs.Prelude.{◌≡◌};

@@ -1,4 +1,6 @@
 // The line of a refusal, with every value that it returns.
+#![tactic(auto)]
+
 ghost use Rattle.std.specs.Prelude.{◌≡◌, [], ◌∷◌, ◌++◌, ◌+◌, ◌*◌, ◌≤◌, length};
 ghost use Rattle.rules.specs.Words.{Valid};
 ghost use Rattle.rules.specs.Answers.{refusing};

@@ -1,4 +1,6 @@
 // The line of a judged sheet (docs/LINES.md): AGREES, DEVIATES with the test and both outputs, or a refusal.
+#![tactic(auto)]
+
 ghost use Rattle.std.specs.Prelude.{◌≡◌, true, ◌≤◌, length};
 ghost use Rattle.rules.specs.Words.{Valid, is_in};
 ghost use Rattle.reader.specs.Places.{word_at, records_at, RecordsAt};

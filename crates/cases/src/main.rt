@@ -1,5 +1,7 @@
 // Runs those worked pieces of document 01 that are not starred, and prints a line for each. The file stdout has what the
 // document says.
+#![tactic(auto)]
+
 ghost use Rattle.std.specs.Prelude.{◌≤◌, length};
 
 use builder::build;

@@ -1,4 +1,6 @@
 // Whether a dossier's tests are enough (document 01, refusal 11).
+#![tactic(auto)]
+
 ghost use Rattle.std.specs.Prelude.{◌≡◌, length};
 ghost use Rattle.rules.specs.Operations.{fine};
 ghost use Rattle.soundness.specs.Lent.{Lent, sound_of, finding_of};

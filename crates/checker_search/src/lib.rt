@@ -1,5 +1,7 @@
 // The search for a needed word that begins no test (document 01, refusal 11). The tests stand in a trie. A node is marked
 // when all that may follow its word was found in the trie, so that it is looked at once, however many words lead to it.
+#![tactic(auto)]
+
 ghost use Rattle.checker_search.specs.Blocks.{Searching, LackOf};
 
 use checker_ways::{Way, begun, way_of_cover, way_of_middle};

@@ -1,5 +1,7 @@
 // The ways that the search for a missing word goes in the trie of the tests (document 01, refusal 11): along a cover word, along
 // a middle behind it, and along a separating word behind both.
+#![tactic(auto)]
+
 ghost use Rattle.std.specs.Prelude.{◌≡◌, List, [], ◌++◌, ℕ, ◌<◌, length, get_or, set};
 ghost use Rattle.rules.specs.Lists.{any};
 ghost use Rattle.rules.specs.Words.{Word, begins, shortlex};

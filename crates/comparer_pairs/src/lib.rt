@@ -1,5 +1,7 @@
 // Pairs of a golden state and a unit state, for the comparison (document 01, "Compare"): what an input does at a pair, the marks of
 // the pairs that have been met, and the queue of them.
+#![tactic(auto)]
+
 mod marks;
 mod pairs;
 mod queue;

@@ -1,6 +1,8 @@
 // The search over pairs for what tells golden and unit apart (document 01, "Compare"). Each pair that is met is queued once, behind those that were met before it, and its inputs are tried
 // in rising order: so pairs are met in the order of words, by length and then by inputs, and the first input that shows
 // different outputs ends the first telling word.
+#![tactic(auto)]
+
 ghost use Rattle.std.specs.Prelude.{◌≡◌, false, ◌+◌, ◌≤◌, ◌<◌, length};
 ghost use Rattle.rules.specs.Sizes.{most_inputs};
 ghost use Rattle.comparer_pairs.specs.Pairs.{pairs, golden_at, unit_at, SidesAt};

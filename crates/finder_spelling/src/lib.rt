@@ -1,4 +1,6 @@
 // The first telling words of all pairs of states, one after the other in a text, each behind its length byte (document 02, L1).
+#![tactic(auto)]
+
 ghost use Rattle.std.specs.Prelude.{◌≡◌, ◌+◌, ◌≤◌, ◌<◌, length};
 ghost use Rattle.rules.specs.Files.{word_bytes};
 ghost use Rattle.rules.specs.Needed.{pairs};

@@ -1,4 +1,6 @@
 // The library for callers in other languages: each operation once, its answer packed into one number.
+#![tactic(auto)]
+
 ghost use Rattle.std.specs.Prelude.{◌≡◌, [], ◌∷◌};
 ghost use Rattle.rules.specs.Answers.{well, check_says, build_says, run_says, compare_says, judge_says, cost_says, find_says, import_says};
 ghost use Rattle.rules.specs.Operations.{check_answer, build_answer, build_output, run_answer, compare_answer, compare_output, judge_answer, judged_part, cost_answer};

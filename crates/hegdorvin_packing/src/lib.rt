@@ -1,4 +1,6 @@
 // Answers as one number (docs/INTERFACE.md).
+#![tactic(auto)]
+
 ghost use Rattle.std.specs.Prelude.{◌≡◌, [], ◌∷◌, ◌+◌, ◌*◌, ◌<◌};
 ghost use Rattle.rules.specs.Answers.{well, refusing, check_says, build_says, run_says, compare_says, judge_says, cost_says, find_says, import_says};
 ghost use Rattle.rules.specs.declared.Refusal.TheVariants.{Missing};

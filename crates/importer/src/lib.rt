@@ -1,4 +1,6 @@
 // KISS2 text read into a unit (document 02, L2; docs/KISS2.md).
+#![tactic(auto)]
+
 ghost use Rattle.std.specs.Prelude.{◌≡◌, List, ℕ, ◌^◌, ◌≤◌};
 ghost use Rattle.rules.specs.Kiss2.{Says};
 ghost use Rattle.rules.specs.Promises.{ReadKiss2Promise};

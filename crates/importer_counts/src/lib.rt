@@ -1,5 +1,7 @@
 // What the lines so far have said (docs/KISS2.md, rules 4, 6, 8, 9 and 10): the numbers of the directives, whether a reset state and the
 // end were said, and how many terms there were. Names and entries stand in tables beside it.
+#![tactic(auto)]
+
 ghost use Rattle.std.specs.Prelude.{◌≡◌, List, [], ◌∷◌, ◌++◌, ◌≤◌, ◌<◌, eqb, leb, length};
 ghost use Rattle.rules.specs.Lists.{all};
 ghost use Rattle.rules.specs.Kiss2.{Field, Term, Says, number, reset, end, most_of, numbers_in, names_in, is_whole};

@@ -1,5 +1,7 @@
 // Where lines and fields stand in a text (document 02, L2; docs/KISS2.md, rules 1 and 2). Nothing is copied: what is found are
 // places.
+#![tactic(auto)]
+
 mod line_fields;
 mod lines;
 

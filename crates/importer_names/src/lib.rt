@@ -1,4 +1,6 @@
 // The names of a text's states (docs/KISS2.md, rule 7), each once, as they were met: 16 bytes for each of 64, and their lengths.
+#![tactic(auto)]
+
 ghost use Rattle.std.specs.Prelude.{◌≡◌, List, [], ◌∷◌, ◌++◌, ◌-◌, ◌≤◌, ◌<◌, length};
 ghost use Rattle.rules.specs.Words.{same};
 ghost use Rattle.rules.specs.Kiss2.{Field, place_in};

@@ -1,5 +1,7 @@
 // The numbers of a text's states (docs/KISS2.md, "What comes of it"). A table holds them: for each name, by its number among the names as
 // they were met, one more than its number as a state, or 0 where it has none yet.
+#![tactic(auto)]
+
 ghost use Rattle.std.specs.Prelude.{◌≡◌, List, ◌++◌, not, ◌+◌, ◌≤◌, ◌<◌, length};
 ghost use Rattle.rules.specs.Lists.{◌∈◌, keep};
 ghost use Rattle.rules.specs.Sizes.{most_states};

@@ -1,4 +1,6 @@
 // What a line of a KISS2 text says by itself (document 02, L2; docs/KISS2.md, rules 2 to 8 and 13).
+#![tactic(auto)]
+
 mod directives;
 mod fields;
 mod lines;

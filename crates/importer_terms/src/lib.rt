@@ -1,5 +1,7 @@
 // The terms of a text (document 02, L2; docs/KISS2.md, rules 6 and 12): the inputs that a cube is opened into, the number that an
 // output is, and the entries that the terms so far say, with which a further term may not disagree.
+#![tactic(auto)]
+
 mod contradictions;
 mod cubes;
 mod entries;

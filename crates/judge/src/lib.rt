@@ -1,4 +1,6 @@
 // The judge of answer sheets (document 01, "Judge").
+#![tactic(auto)]
+
 use rules::Refusal;
 
 mod answer;

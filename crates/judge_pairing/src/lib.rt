@@ -1,4 +1,6 @@
 // Records paired with tests by their words (document 01, refusals 12 to 14).
+#![tactic(auto)]
+
 mod foreign;
 
 ghost use Rattle.std.specs.Prelude.{◌≡◌, List, ℕ, length};

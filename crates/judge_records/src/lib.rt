@@ -1,5 +1,7 @@
 // The records of a sheet in a trie: at the node of a word stands the place of the record that has it. A record of n inputs
 // has more than 2 n bytes, so a sheet of at most 131,070 bytes has fewer than 65,535 inputs, and their trie fits.
+#![tactic(auto)]
+
 ghost use Rattle.std.specs.Prelude.{◌≡◌, map, suc, ◌≤◌, ◌<◌, length};
 ghost use Rattle.rules.specs.Lists.{sum};
 ghost use Rattle.rules.specs.Sizes.{most_sheet_bytes};

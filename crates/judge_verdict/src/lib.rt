@@ -1,4 +1,6 @@
 // The recorded answers held against the golden's (document 01, "Judge"): AGREES, or DEVIATES with the first test.
+#![tactic(auto)]
+
 ghost use Rattle.std.specs.Prelude.{◌≡◌, List};
 ghost use Rattle.rules.specs.Machines.{answer};
 ghost use Rattle.rules.specs.Files.{SheetRecord};

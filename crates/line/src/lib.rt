@@ -1,4 +1,6 @@
 // Answers as lines of text: the line that the program `run` prints (document 01, "Worked pieces").
+#![tactic(auto)]
+
 mod ran;
 mod refused;
 

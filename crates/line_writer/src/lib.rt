@@ -1,5 +1,6 @@
 // Writers of one thing each, for lines of text. Each is lent an output and the place to write at, and answers the place
 // after what it wrote. The bytes before and behind stay.
+#![tactic(auto)]
 
 ghost use Rattle.std.specs.Prelude.{◌≡◌, [], ◌∷◌, ◌++◌, ◌+◌, ◌≤◌, ◌<◌, length};
 ghost use Rattle.rules.specs.Words.{Valid};

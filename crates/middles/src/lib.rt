@@ -1,6 +1,8 @@
 // The middles (document 01, "Needed words"): the words of at most `most` inputs, by length, then by inputs. They have the
 // places 0, 1, .. in that order, so that a loop can go through them by number; the middle at a place is grown one input at
 // a time.
+#![tactic(auto)]
+
 ghost use Rattle.std.specs.Prelude.{◌≡◌, [], ◌∷◌, ◌++◌, cond, suc, ◌+◌, ◌-◌, ◌≤◌, ◌<◌, eqb, length, get_or};
 ghost use Rattle.rules.specs.Sizes.{bound_of};
 ghost use Rattle.rules.specs.Words.{Word, words_of, shortlex};

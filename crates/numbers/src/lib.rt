@@ -1,4 +1,5 @@
 // Numbers of files and of arrays made as wide as places are. A cast asks for a proof where it stands; a call does not.
+#![tactic(auto)]
 
 ghost use Rattle.std.specs.Prelude.{◌≡◌, ◌<◌};
 

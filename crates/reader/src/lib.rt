@@ -2,6 +2,8 @@
 // comes back is no copy of it: its numbers, and for each section the place of what stands first in it and how much there is,
 // so that the crates above look things up in the bytes that were lent to them. What the answers mean stands in
 // specs/Shapes.antt, what stands at a place in specs/Places.antt.
+#![tactic(auto)]
+
 use rules::Refusal;
 
 mod bound;

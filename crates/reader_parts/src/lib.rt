@@ -1,5 +1,7 @@
 // The larger parts that the three files are made of (document 01, "The three files" and the refusals 2 to 5): numbers, tables,
 // records. What the answers mean stands in the specs of `reader_steps` and in specs/Numbers.antt.
+#![tactic(auto)]
+
 use rules::Fault;
 
 mod machine;

@@ -1,5 +1,7 @@
 // What a refusal says (the table of refusals in document 01, and document 02): its number, the file that it concerns, and its first two values, 0
 // where it has none. It is said here once; packing and lines ask for it.
+#![tactic(auto)]
+
 ghost use Rattle.std.specs.Prelude.{◌≡◌, ◌<◌};
 ghost use Rattle.rules.specs.Answers.{number_of, file_of, refusing};
 ghost use Rattle.theory.specs.Answers.{value};

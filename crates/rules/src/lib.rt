@@ -1,4 +1,5 @@
 // The kinds of number, refusal and answer of documents 01 and 02. What each one means stands in specs/.
+#![tactic(auto)]
 
 ghost use Rattle.std.specs.Prelude.{◌≡◌, ◌<◌};
 ghost use Rattle.rules.specs.Answers.{file_number, fault_number};

@@ -1,5 +1,7 @@
 // The program of document 01: reads the files `golden` and `unit` from the folder that it is started in, and prints one
 // line.
+#![tactic(auto)]
+
 ghost use Rattle.io.specs.Counts.{IsPrefixLen};
 
 use libc::STDOUT_FILENO;

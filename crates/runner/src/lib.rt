@@ -1,4 +1,6 @@
 // The run of a unit over a dossier's tests, and what the tests cost (document 01, "Operations and answers").
+#![tactic(auto)]
+
 mod costing;
 mod trial;
 

@@ -1,4 +1,6 @@
 // The tests of a dossier tried on a unit (document 01, "Run").
+#![tactic(auto)]
+
 ghost use Rattle.std.specs.Prelude.{◌≡◌};
 ghost use Rattle.rules.specs.Operations.{run_answer};
 ghost use Rattle.runner_trials.specs.Trials.{TrialAt};

@@ -1,5 +1,7 @@
 // Whether the separating words tell every two golden states apart (document 01, refusal 10). Words that told some pair apart are tried first: each of
 // them splits the states further, so all words are gone through at most as often as there are states.
+#![tactic(auto)]
+
 ghost use Rattle.std.specs.Prelude.{◌≡◌, ℕ, ◌+◌, ◌-◌, ◌<◌, List, true, false, length};
 ghost use Rattle.rules.specs.Lists.{first, numbers_from};
 ghost use Rattle.rules.specs.Needed.{pairs};

@@ -1,4 +1,6 @@
 // Whether the cover words have the empty one, and which golden states they reach (document 01, refusals 7 and 8).
+#![tactic(auto)]
+
 ghost use Rattle.std.specs.Prelude.{◌≡◌, ℕ, ◌+◌, ◌≤◌, ◌<◌};
 ghost use Rattle.rules.specs.Lists.{any, first, numbers};
 ghost use Rattle.rules.specs.Machines.{after};

@@ -1,5 +1,7 @@
 // Words in a trie: three arrays that the caller lends, with an entry for each node. Node 0 is the root, the empty word. A
 // node has its label, its newest child and its next older sibling, 0 for none. Other arrays hold numbers or marks by node.
+#![tactic(auto)]
+
 ghost use Rattle.std.specs.Prelude.{◌≡◌, ◌+◌, ◌≤◌, ◌<◌, List, [], ◌∷◌, length};
 ghost use Rattle.rules.specs.Words.{Word, is_in};
 ghost use Rattle.trie.specs.Model.{Trie, root, grow, size, child_in, word_of, walk_from, Proper};

@@ -1,4 +1,6 @@
 // The words of a file, filed in a trie where they stand in the bytes.
+#![tactic(auto)]
+
 mod distinct;
 mod fill;
 mod nodes;

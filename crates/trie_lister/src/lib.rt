@@ -1,4 +1,6 @@
 // The words of a trie, listed and measured: the maximal ones, in order of inputs, each behind its length byte.
+#![tactic(auto)]
+
 ghost use Rattle.std.specs.Prelude.{◌≡◌, ℕ, ◌+◌, ◌≤◌, ◌<◌, ◌∷◌, length, take};
 ghost use Rattle.rules.specs.Words.{Word};
 ghost use Rattle.trie.specs.Model.{Trie, size};

@@ -1,5 +1,6 @@
 // Words and tables where they stand in the bytes of a file: entries looked up, words walked. A golden state, a unit state, an
 // input and an output are four sorts, so the look-ups of golden and unit are two sets of functions.
+#![tactic(auto)]
 
 ghost use Rattle.std.specs.Prelude.{◌≡◌, ◌+◌, ◌*◌, ◌≤◌, ◌<◌, eqb, length, get_or};
 ghost use Rattle.rules.specs.Words.{same};

@@ -1,4 +1,6 @@
 // Where a test stands in its dossier, what golden and unit output at a step of it, and whether another word is the same.
+#![tactic(auto)]
+
 ghost use Rattle.std.specs.Prelude.{◌≡◌, ◌<◌, length, get_or};
 ghost use Rattle.rules.specs.Words.{same};
 ghost use Rattle.rules.specs.Machines.{answer};

@@ -1,0 +1,13 @@
+use borrow.Author.Rules.{rules}
+use mathlib.Core.Path.{◌≡◌, refl, sym, ◌∙◌}
+use lib.ListN.{drop}
+use Rattle.rules.specs.Reading.{many, output}
+use Rattle.reader_steps.specs.Steps.{step}
+use Rattle.reader_steps.proofs.Laws.{kept_output, output_here, output_none, many_next, many_stopped, many_done}
+use Rattle.reader_steps.proofs.steps.outputs_at.Given as goal
+
+abbrev pub invariant-loop-left : goal.invariant-loop-left
+invariant-loop-left l = step (many output l.count l.at (drop l.at l.bytes)) ≡ step (many output l.left l.p (drop l.p l.bytes))
+
+abbrev pub decreases-loop-left : goal.decreases-loop-left
+decreases-loop-left l = l.left

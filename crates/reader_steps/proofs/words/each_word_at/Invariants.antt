@@ -1,0 +1,14 @@
+use borrow.Author.Rules.{rules}
+use mathlib.Core.Path.{◌≡◌, sym, ◌∙◌}
+use lib.ListN.{drop}
+use Rattle.reader_steps.proofs.Laws.{keeps, many_next, many_stopped, many_done}
+use Rattle.rules.specs.Reading.{many, word}
+use Rattle.theory.specs.Sections.{reads_word}
+use Rattle.reader_steps.specs.Steps.{step}
+use Rattle.reader_steps.proofs.words.each_word_at.Given as goal
+
+abbrev pub invariant-loop-left : goal.invariant-loop-left
+invariant-loop-left l = step (many (word l.inputs l.most) l.count l.at (drop l.at l.bytes)) ≡ step (many (word l.inputs l.most) l.left l.p (drop l.p l.bytes))
+
+abbrev pub decreases-loop-left : goal.decreases-loop-left
+decreases-loop-left l = l.left
