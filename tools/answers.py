@@ -38,34 +38,89 @@ class Function:
     def __init__(self, made):
         self.places = {p[0]: p for p in made["places"]}
         self.arms = dict(zip([p[0] for p in made["places"]], made["arms"]))
+        self.told = dict(zip([p[0] for p in made["places"]], made["clauses"]))
         self.goals = {plain(a): b for a, b in made["needs"]}
         self.asked = dict(zip([b for _, b in made["needs"]], [a for a, _ in made["asked_at"]]))
         self.loops = {plain(l[0][0]): (l[0][1], l[1], c) for l, c in zip(made["loops"], made["changed"])}
+        self.pre = (made.get("pre") or {}).get("fields") or []
+        self.params = made["params"]
 
     def before(self, place):
         p = self.places.get(place)
         return p[1] if p else None
 
-    def arm_of(self, place, step):
-        """The arm that, at or before a place, gives names to what a match bound under the old step's name."""
-        return self.arms.get(place)
+    def own_params(self, crate):
+        for callee, names in self.params.items():
+            if callee.split("::")[-1] == self.source:
+                return names
+        return self.known or []
+
+
+def numbered(rest, names):
+    """The place that a chain as 1.1.0 names, as its name, and the fields behind it."""
+    i = 0
+    while i < len(rest) and rest[i] == "1":
+        i += 1
+    if i < len(names):
+        if i < len(rest) and rest[i] == "0":
+            return [names[i]] + rest[i + 1:]
+        if i == len(names) - 1 and i > 0:
+            return [names[i]] + rest[i:]
+    return None
+
+
+def clause(rest, names):
+    """The clause that a chain as 1.0 names, of clauses that were pairs of pairs, and the fields behind it."""
+    i = 0
+    while i < len(names) - 1 and i < len(rest) and rest[i] == "1":
+        i += 1
+    if i == len(names) - 1:
+        return [names[i]] + rest[i:]
+    if i < len(rest) and rest[i] == "0":
+        return [names[i]] + rest[i + 1:]
+    return None
+
+
+def behind_a_call(fn, at, rest):
+    """Numbers of clauses and of parameters behind a call become names."""
+    if not rest:
+        return rest
+    if rest[0] == "ensures" and len(rest) > 1 and rest[1].isdigit():
+        fields = (fn.told.get(at) or {}).get("fields") or []
+        named = clause(rest[1:], fields) if len(fields) > 1 else None
+        if named:
+            return ["ensures"] + named
+    if rest[0] in ("new", "auto") and len(rest) > 1 and rest[1] in ("0", "1"):
+        callee = fn.places[at][3]
+        named = numbered(rest[1:], fn.params.get(callee, []))
+        if named:
+            return [rest[0]] + named
+    return rest
 
 
 def walk(fn, place, fields, root):
     """('place', P) or ('path', text) of the fields behind a place."""
     i = 0
+    asked = place
     while i < len(fields) and fields[i] == "before":
-        place = fn.before(place)
-        if place is None:
-            return ("left", "before the start")
+        place = fn.before(place) or place
         i += 1
     if i == len(fields):
         return ("place", place)
     field, rest = fields[i], fields[i + 1:]
-    if field in ("args", "requires", "ranges", "pre", "well_formed", "type_inv", "utf8"):
+    if field in ("requires", "pre") and rest and rest[0].isdigit() and len(fn.pre) > 1 and not fn.recursive:
+        rest = clause(rest, fn.pre) or rest
+    if field in ("requires", "pre") and fn.recursive and rest and rest[0] in ("0", "1"):
+        if rest[0] == "0":
+            field, rest = "decreases", rest[1:]
+        else:
+            rest = (clause(rest[1:], fn.pre) or rest[1:]) if len(fn.pre) > 1 else rest[1:]
+    if field in ("args", "decreases", "requires", "ranges", "pre", "well_formed", "type_inv", "utf8"):
         return ("path", ".".join([root, {"pre": "requires"}.get(field, field)] + rest))
     at = place
     while at is not None:
+        if fn.before(at) is None and place != asked:
+            at, place = asked, asked  # a step that today stands elsewhere on the way
         old = fn.places[at]
         if plain(old[2][0]) == plain(field):
             arm = fn.arms.get(at)
@@ -73,12 +128,9 @@ def walk(fn, place, fields, root):
                 for name, step, path in arm[2]:
                     if plain(step) == plain(field) and path and rest[:len(path)] == path:
                         return ("path", ".".join([root, arm[0], name] + rest[len(path):]))
-                    if plain(step) == plain(field) and path and path[: len(rest)] == rest and rest:
-                        return ("path", ".".join([root, arm[0]] + [name]))
-            new = old[2][1]
-            if plain(field).startswith("loop") or fn.loops.get(plain(field)):
-                pass
-            return ("path", ".".join([root, new] + rest))
+            new = ".".join([root, old[2][1]] + behind_a_call(fn, at, rest))
+            # a test of `!b` now says what b is
+            return ("path", f"(ap not {new})" if "-not-" in old[2][1] and rest and rest[0] in ("true", "false") else new)
         at = fn.before(at)
     return ("path?", ".".join([root, field] + rest))
 
@@ -98,49 +150,49 @@ def split_items(text):
     return [i for i in items if i.strip()]
 
 
+def is_goal(kind):
+    return kind.startswith("tie.") or bool(re.match(r"^(?:\(t : ℕ\) → )?\S+-lts\.(?:Need|invariant|decreases)", kind))
+
+
 SIG = re.compile(r"^((?:abbrev |pub |unfoldable )*)(" + NAME + r")\s*:\s*(.*)$", re.S)
 
 
 def turn_term(fn, place, term, root, left):
-    """A term in which paths from a place become paths from the record of steps."""
-    env = {root: ("place", place)}
+    """A term in which paths from a place become paths from the record of steps. A let that names such a path goes."""
+    env = {root: []}
+    path = r"[A-Za-z][\w'₀-₉\-]*(?:\.[\w'₀-₉\-]+)*"
 
-    def resolve(token):
+    def full(token):
         parts = token.split(".")
-        head = parts[0]
-        if head not in env:
-            return None
-        kind, what = env[head]
-        if kind == "place":
-            return walk(fn, what, parts[1:], root)
-        return None
+        return env[parts[0]] + parts[1:] if parts[0] in env else None
 
     out = term
-    # lets that bind a place alone go; the others stay
     while True:
-        m = None
-        for m in re.finditer(r"\blet (" + NAME + r") = ([A-Za-z][\w'₀-₉\-]*(?:\.[\w'₀-₉\-]+)*)\s+in\b\s*", out):
-            got = resolve(m.group(2))
-            if got and got[0] == "place":
-                env[m.group(1)] = got
+        for m in re.finditer(r"\blet (" + NAME + r") = (" + path + r")\s+in\b\s*", out):
+            fields = full(m.group(2))
+            if fields is not None and m.group(1) not in env:
+                env[m.group(1)] = fields
                 out = out[:m.start()] + out[m.end():]
                 break
         else:
             break
 
     def one(m):
-        got = resolve(m.group(1))
-        if got is None:
+        fields = full(m.group(1))
+        if fields is None:
             return m.group(0)
-        if got[0] == "place":
+        if not fields:
+            return root
+        kind, what = walk(fn, place, fields, root)
+        if kind == "place":
             left.append(f"a place by itself: {m.group(1)}")
             return m.group(0)
-        if got[0] == "left":
-            left.append(got[1] + ": " + m.group(1))
+        if kind == "left":
+            left.append(what + ": " + m.group(1))
             return m.group(0)
-        if got[0] == "path?":
+        if kind == "path?":
             left.append(f"no step for {m.group(1)}")
-        return got[1]
+        return what
 
     return IDENT.sub(one, out)
 
@@ -228,15 +280,21 @@ def invariant(fn, item_name, body_args, body, loop, left):
     return IDENT.sub(one, body)
 
 
-def turn(path, made, crate, rel, contracts):
-    fn = Function(made)
+def turn(path, parts_made, crate, rel, contracts):
+    """parts_made: the functions of the file, each with the beginning of its names there ('' for one that does not call itself)."""
+    fns = []
+    for prefix, made in parts_made:
+        fn = Function(made)
+        fn.recursive, fn.prefix, fn.source = bool(prefix), prefix, prefix
+        fn.known = Function.known_params.get(prefix)
+        fns.append(fn)
     text = open(path).read()
     items = split_items(text)
     uses, invariants, answers, left = [], [], [], []
     signature, unfolding = None, None
     for item in items:
         if item.startswith("use "):
-            if re.search(r"\.(Tie|Statement|Lts|Reads|Goals|Given)(\.|\b)", item) and "proofs" in item:
+            if re.search(r"\.(Tie|Statement|Lts|Reads|Kinds|Goals|Given)(\.|\b)|borrow\.Fn\.|proofs\.\+\S+\.\{statement\}", item) and ("proofs" in item or "borrow.Fn" in item):
                 continue
             uses.append(item)
             continue
@@ -253,8 +311,9 @@ def turn(path, made, crate, rel, contracts):
             unfolding = None
             if signature[1].endswith("spec") and "statement" in signature[2]:
                 continue
-            if not signature[2].startswith("tie."):
-                answers.append(item)
+            if not is_goal(signature[2]):
+                if not (fns[0].recursive and re.search(r"\bIn \d|Claims|Measures", signature[2])):
+                    answers.append(item)
             continue
         # a clause
         if signature is None:
@@ -263,7 +322,22 @@ def turn(path, made, crate, rel, contracts):
         mods, name, kind = signature
         if name.endswith("spec") and "statement" in kind:
             continue
-        if not kind.startswith("tie."):
+        measure = re.match(r"^(?:μ)-(\S+)$", name)
+        if measure and "Measures" in kind:
+            fn = next((f for f in fns if plain(f.prefix) == measure.group(1)), None)
+            mm = re.match(r"^\S+\s+(\S+)\s+(\S+)\s+=\s*(.*)$", item, re.S)
+            names = fn.own_params(crate)
+            def arg(m):
+                fields = m.group(1).split(".")
+                if fields[0] != mm.group(2):
+                    return m.group(0)
+                named = numbered(fields[1:], names)
+                return ".".join(["l"] + (named or fields[1:]))
+            invariants.append(f"abbrev pub decreases-{fn.source} : goal.decreases-{fn.source}\ndecreases-{fn.source} l = {IDENT.sub(arg, mm.group(3))}")
+            continue
+        if fns[0].recursive and re.search(r"\bIn \d|Claims", kind):
+            continue
+        if not is_goal(kind):
             if unfolding:
                 answers.append(unfolding)
                 unfolding = None
@@ -276,7 +350,11 @@ def turn(path, made, crate, rel, contracts):
             left.append(f"a clause that is not read: {item[:60]}")
             continue
         args, body = mm.group(2), mm.group(3)
-        kind_name = kind.split()[0][len("tie."):]
+        kind_name = re.search(r"(?:tie|\S+-lts)\.(\S+)", kind).group(1)
+        fn = fns[0]
+        if fn.recursive:
+            head = re.search(r"(\S+)-lts\.", kind).group(1)
+            fn = next(f for f in fns if plain(f.prefix) == plain(head))
         inv = re.match(r"^(invariant|decreases)-(.*)$", kind_name)
         if inv:
             loop = fn.loops.get(plain(inv.group(2)))
@@ -303,7 +381,9 @@ def turn(path, made, crate, rel, contracts):
         if goal is None:
             left.append(f"no goal for {name} ({old})")
             continue
-        root = args.split()[0] if args.split() else "c"
+        given = args.split()
+        before = given.pop(0) + " " if fn.recursive and len(given) > 1 else ""
+        root = given[0] if given else "c"
         where = fn.asked.get(goal)
         troubles = []
         term = turn_term(fn, where, body, root, troubles)
@@ -318,7 +398,7 @@ def turn(path, made, crate, rel, contracts):
                         if known == callee:
                             break
         if goal.startswith("returns"):
-            own = contracts.get(rel.split("/")[-1], [])
+            own = contracts.get(fn.source if fn.recursive else rel.split("/")[-1], [])
             for req, ens in own:
                 if len(ens) >= 2 and all(ens):
                     names = ens
@@ -330,16 +410,20 @@ def turn(path, made, crate, rel, contracts):
                 for label, part in zip(names, parts):
                     if part == "search rules":
                         continue
-                    answers.append(f"pub {goal}-clause-{label} : goal.{goal}-clause-{label}\n" + (unfolding + "\n" if unfolding else "") + f"{goal}-clause-{label} {root} = {lets.strip() + ' ' if lets else ''}{part}")
+                    answers.append(f"pub {goal}-clause-{label} : goal.{goal}-clause-{label}\n" + (unfolding + "\n" if unfolding else "") + f"{goal}-clause-{label} {before}{root} = {lets.strip() + ' ' if lets else ''}{part}")
                 unfolding = None
                 continue
             left.append(f"{goal}: {len(names)} clauses {names}, and no tuple")
-        answers.append(f"pub {goal} : goal.{goal}\n" + (unfolding + "\n" if unfolding else "") + f"{goal} {root} = {term}")
+        answers.append(f"pub {goal} : goal.{goal}\n" + (unfolding + "\n" if unfolding else "") + f"{goal} {before}{root} = {term}")
         unfolding = None
     folder = os.path.dirname(path)
     module = f"Rattle.{crate}.proofs.{rel.replace('/', '.')}"
     use = "\n".join(uses)
     real = [a for a in answers if not a.startswith("--")]
+    if any("(ap not " in a for a in real):
+        for word, line in (("ap", "use Rattle.std.proofs.Common.{ap}"), ("not", "use Rattle.std.specs.Prelude.{not}")):
+            if not re.search(rf"[{{ ,]{word}[,}}]", use):
+                use += "\n" + line
     if invariants:
         open(os.path.join(folder, "Invariants.antt"), "w").write(f"{use}\nuse {module}.Given as goal\n\n" + "\n\n".join(invariants) + "\n")
     if real:
@@ -370,16 +454,24 @@ def main():
         folder = os.path.abspath(folder)
         crate = os.path.basename(folder)
         contracts = clauses(os.path.dirname(folder))
+        every = {}
+        for made_names in made.values():
+            if isinstance(made_names, dict) and "params" in made_names:
+                every.update({k.split("::")[-1]: v for k, v in made_names["params"].items()})
         for path in sorted(glob.glob(os.path.join(folder, "proofs", "**", "Proof.antt"), recursive=True)):
             rel = os.path.relpath(os.path.dirname(path), os.path.join(folder, "proofs"))
-            key = f"Rattle-{crate}-proofs.{rel.replace('/', '.')}.Lts"
-            if key not in made:
-                near = [k for k in made if k.startswith(f"Rattle-{crate}-proofs.") and plain(k) == plain(key)]
-                key = near[0] if near else None
-            if key is None or "/+" in "/" + rel:
-                print(f"left: {crate}/{rel}: {'a recursion' if key else 'no names'}")
+            start = f"Rattle-{crate}-proofs.{rel.replace('/', '.')}.Lts"
+            if "/+" in "/" + rel:
+                keys = [k for k in made if k.startswith(start + "-")]
+                parts = [(k[len(start) + 1:], made[k]) for k in keys]
+            else:
+                key = start if start in made else next((k for k in made if plain(k) == plain(start)), None)
+                parts = [("", made[key])] if key else []
+            if not parts:
+                print(f"left: {crate}/{rel}: no names")
                 continue
-            turn(path, made[key], crate, rel, contracts)
+            Function.known_params = every
+            turn(path, parts, crate, rel, contracts)
 
 
 if __name__ == "__main__":

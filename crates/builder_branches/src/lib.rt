@@ -14,7 +14,7 @@ use trie::{Inserted, Stepped, step};
 use trie_filing::put_word;
 
 // How many nodes the trie has; or no room for all needed words.
-#[derive(Drop)]
+#[derive(Clone, Copy)]
 pub enum Grown {
     Nodes(usize),
     Full,

@@ -18,7 +18,7 @@ use rules::MOST_DOSSIER_BYTES;
 use texts::same_text;
 
 // A bound, as far as the digits that were given make one.
-#[derive(Drop)]
+#[derive(Clone, Copy)]
 enum Given {
     Bound(u8),
     NoBound,

@@ -20,7 +20,7 @@ use rules::{Built, Checked, Compared, Costed, Found, Imported, Ran};
 use runner::{cost, run};
 
 // The line of build, find or the import, and how many bytes of its output it wrote: none where it refuses.
-#[derive(Drop)]
+#[derive(Clone, Copy)]
 pub struct BuiltLine {
     pub line: Line,
     pub length: usize,

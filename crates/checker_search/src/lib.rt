@@ -11,7 +11,7 @@ use trie::mark;
 use walker::word_length;
 
 // A needed word that begins no test: the numbers of its cover word, its middle and its separating word.
-#[derive(Drop)]
+#[derive(Clone, Copy)]
 pub enum Lack {
     Nowhere,
     At(usize, usize, usize),

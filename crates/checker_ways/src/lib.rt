@@ -53,7 +53,7 @@ fn keep_node(nodes: &mut [u16], y: usize, node: usize)
 }
 
 // Where a walk from the root leads: out of the trie, to a marked node, or to one that is to be looked at.
-#[derive(Drop)]
+#[derive(Clone, Copy)]
 pub enum Way {
     Off,
     Known,

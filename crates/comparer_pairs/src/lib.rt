@@ -11,7 +11,7 @@ pub use pairs::look;
 pub use queue::{entry, input_at, no_entries, pair_at, parent_at};
 
 // Where the two machines stand in their files.
-#[derive(Drop)]
+#[derive(Clone, Copy)]
 pub struct Sides {
     pub inputs: u8,
     pub table: usize,
@@ -21,7 +21,7 @@ pub struct Sides {
 }
 
 // What is seen of an input at a pair: golden and unit give different outputs, or the pair that it leads to.
-#[derive(Drop)]
+#[derive(Clone, Copy)]
 pub enum Seen {
     Apart,
     Next(usize),

@@ -14,14 +14,14 @@ use comparer_pairs::{Seen, Sides, entry, is_met, look, meet, no_marks, pair_at};
 use rules::Input;
 
 // The input that tells golden and unit apart; or how many entries the queue has then.
-#[derive(Drop)]
+#[derive(Clone, Copy)]
 pub enum Progress {
     Told(Input),
     Upto(usize),
 }
 
 // The entry and the input at which golden and unit are told apart.
-#[derive(Drop)]
+#[derive(Clone, Copy)]
 pub enum Found {
     Nowhere,
     At(usize, Input),

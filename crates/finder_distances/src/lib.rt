@@ -13,7 +13,7 @@ pub use rounds::find_distances;
 use rules::Input;
 
 // The lowest input by which a word that tells two states apart can go on, if there is one.
-#[derive(Drop)]
+#[derive(Clone, Copy)]
 pub enum Lead {
     By(Input),
     Nowhere,

@@ -11,7 +11,7 @@ ghost use Rattle.importer_counts.specs.Counts.{listed, CountsAt, Counted, TermCo
 use importer_says::Directive;
 
 // 0 stands for a number that was not said.
-#[derive(Drop)]
+#[derive(Clone, Copy)]
 pub struct Counts {
     pub input_bits: usize,
     pub output_bits: usize,
@@ -23,7 +23,7 @@ pub struct Counts {
 }
 
 // A line that may not follow those before it; or what has been said with it.
-#[derive(Drop)]
+#[derive(Clone, Copy)]
 pub enum Counting {
     Bad,
     Goes(Counts),

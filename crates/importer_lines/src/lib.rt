@@ -9,14 +9,14 @@ pub use line_fields::{fields_of, next_field};
 pub use lines::line_end;
 
 // A part of a text: the bytes from `start` on, up to `end`, which is behind it.
-#[derive(Drop)]
+#[derive(Clone, Copy)]
 pub struct Part {
     pub start: usize,
     pub end: usize,
 }
 
 // The fields of a line. No line may have more than four: `count` is 5 where there are more. Of the parts, the first `count` are fields.
-#[derive(Drop)]
+#[derive(Clone, Copy)]
 pub struct Fields {
     pub count: u8,
     pub a: Part,

@@ -18,7 +18,7 @@ const WIDTH: usize = 16;
 const MOST_NAMES: usize = MOST_STATES as usize;
 
 // No room for a name more; or the name's number, and how many names there are.
-#[derive(Drop)]
+#[derive(Clone, Copy)]
 pub enum Naming {
     Full,
     At(usize, usize),

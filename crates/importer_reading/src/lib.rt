@@ -13,7 +13,7 @@ use importer_terms::NumberedTerm;
 pub use lines::read_lines;
 
 // What was counted; how many names there are; how many of them have a number.
-#[derive(Drop)]
+#[derive(Clone, Copy)]
 pub struct Progress {
     pub counts: Counts,
     pub names: usize,
@@ -21,7 +21,7 @@ pub struct Progress {
 }
 
 // Where the fields of a term stand.
-#[derive(Drop)]
+#[derive(Clone, Copy)]
 struct TermParts {
     cube: Part,
     current: Part,
@@ -30,7 +30,7 @@ struct TermParts {
 }
 
 // 19, 20, or what was said with the line.
-#[derive(Drop)]
+#[derive(Clone, Copy)]
 pub enum Step {
     Bad,
     Contradicts,
@@ -38,21 +38,21 @@ pub enum Step {
 }
 
 // No room for both names of a term; or their numbers, the current state's first, and how many names there are.
-#[derive(Drop)]
+#[derive(Clone, Copy)]
 enum BothNamed {
     Full,
     At(usize, usize, usize),
 }
 
 // 19; or what was counted with the term, the term, and how many names there are.
-#[derive(Drop)]
+#[derive(Clone, Copy)]
 enum NamedTerm {
     Bad,
     At(Counts, NumberedTerm, usize),
 }
 
 // The line of 19 or 20; or what was said, and the number of the line behind the last.
-#[derive(Drop)]
+#[derive(Clone, Copy)]
 pub enum LinesRead {
     Bad(usize),
     Contradicts(usize),

@@ -10,7 +10,7 @@ use importer_lines::Part;
 pub use lines::line_said;
 
 // The directives that say a number.
-#[derive(Drop)]
+#[derive(Clone, Copy)]
 pub enum Directive {
     Inputs,
     Outputs,
@@ -19,7 +19,7 @@ pub enum Directive {
 }
 
 // What the first of two fields names.
-#[derive(Drop)]
+#[derive(Clone, Copy)]
 enum Named {
     Number(Directive),
     Reset,
@@ -27,7 +27,7 @@ enum Named {
 }
 
 // The bytes that a field may have.
-#[derive(Drop)]
+#[derive(Clone, Copy)]
 enum Alphabet {
     Digits,
     Printable,
@@ -36,7 +36,7 @@ enum Alphabet {
 }
 
 // Names and bits are told by where they stand in the text. A term's are its cube, its current state, its next state and its output.
-#[derive(Drop)]
+#[derive(Clone, Copy)]
 pub enum LineSaid {
     Skipped,
     Number(Directive, usize),

@@ -12,7 +12,7 @@ pub use entries::{entry_place, no_entries, put_term};
 use importer_lines::Part;
 
 // A term as it is compared and kept: where its cube stands in the text, the numbers of its two names, and its output's value.
-#[derive(Drop)]
+#[derive(Clone, Copy)]
 pub struct NumberedTerm {
     pub cube: Part,
     pub current: usize,

@@ -12,7 +12,7 @@ pub use silence::find_silent;
 pub use writing::write_unit;
 
 // The state and the input that no term is about, if there are such.
-#[derive(Drop)]
+#[derive(Clone, Copy)]
 pub enum SilentFound {
     Nowhere,
     At(UnitState, Input),

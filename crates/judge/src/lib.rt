@@ -8,7 +8,7 @@ mod answer;
 pub use answer::{examine_both, failing_part, failing_word, judge};
 
 // What the judge answers, and of a test that deviates also where its inputs stand in the dossier and how many they are.
-#[derive(Drop)]
+#[derive(Clone, Copy)]
 pub enum Examined {
     Agrees,
     Deviates(usize, usize, usize, usize),
@@ -16,7 +16,7 @@ pub enum Examined {
 }
 
 // A part of the dossier.
-#[derive(Drop)]
+#[derive(Clone, Copy)]
 pub struct WordPart {
     pub place: usize,
     pub size: usize,

@@ -19,14 +19,14 @@ use trie_filing::put_word;
 use walker::{record_end, word_length};
 
 // The place of what was looked for.
-#[derive(Drop)]
+#[derive(Clone, Copy)]
 pub enum Found {
     Nothing,
     At(usize),
 }
 
 // How many nodes there are with the word of a record; or an earlier record has that word; or there is no room.
-#[derive(Drop)]
+#[derive(Clone, Copy)]
 pub enum Stored {
     New(usize),
     Old,

@@ -18,7 +18,7 @@ use walker::{Difference, recorded_difference, word_length};
 
 // The place of the first test whose recorded answer is not the golden's, the first differing step, and the byte place of the
 // test in the dossier.
-#[derive(Drop)]
+#[derive(Clone, Copy)]
 pub enum Deviation {
     Nowhere,
     At(usize, usize, usize),

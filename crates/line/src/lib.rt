@@ -11,7 +11,7 @@ pub use refused::{put_spot, write_refusal};
 pub const LINE_ROOM: usize = 346;
 
 // A line: its first `length` bytes. The others are 0.
-#[derive(Drop)]
+#[derive(Clone, Copy)]
 pub struct Line {
     pub bytes: [u8; LINE_ROOM],
     pub length: usize,

@@ -11,7 +11,7 @@ use reader_steps::{ByteRead, Section, Step, words_at};
 use rules::{Fault, File, MOST_DOSSIER_BYTES, MOST_SET_WORD, MOST_TEST_WORD, Refusal};
 
 // The numbers as they stand in the file.
-#[derive(Drop)]
+#[derive(Clone, Copy)]
 pub struct Numbers {
     pub inputs: u8,
     pub states: u8,
@@ -19,7 +19,7 @@ pub struct Numbers {
 }
 
 // Where a section's words start, and how many it has.
-#[derive(Drop)]
+#[derive(Clone, Copy)]
 pub struct WordList {
     pub first: usize,
     pub count: usize,

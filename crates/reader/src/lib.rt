@@ -17,7 +17,7 @@ pub use sheet::read_sheet;
 pub use unit::read_unit;
 
 // A well-formed dossier. Each place is that of the first byte after a section's count.
-#[derive(Drop)]
+#[derive(Clone, Copy)]
 pub struct DossierShape {
     pub inputs: u8,
     pub states: u8,
@@ -32,34 +32,34 @@ pub struct DossierShape {
     pub count: usize,
 }
 
-#[derive(Drop)]
+#[derive(Clone, Copy)]
 pub enum DossierRead {
     Holds(DossierShape),
     Refused(Refusal),
 }
 
 // A well-formed unit.
-#[derive(Drop)]
+#[derive(Clone, Copy)]
 pub struct UnitShape {
     pub inputs: u8,
     pub states: u8,
     pub table: usize,
 }
 
-#[derive(Drop)]
+#[derive(Clone, Copy)]
 pub enum UnitRead {
     Holds(UnitShape),
     Refused(Refusal),
 }
 
 // A well-formed sheet: where its records start, and how many it has.
-#[derive(Drop)]
+#[derive(Clone, Copy)]
 pub struct SheetShape {
     pub records: usize,
     pub count: usize,
 }
 
-#[derive(Drop)]
+#[derive(Clone, Copy)]
 pub enum SheetRead {
     Holds(SheetShape),
     Refused(Refusal),

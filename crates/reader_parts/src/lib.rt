@@ -11,7 +11,7 @@ pub use machine::{sizes_at, table_at};
 pub use records::records_at;
 
 // How many inputs and states the machine has.
-#[derive(Drop)]
+#[derive(Clone, Copy)]
 pub enum Sizes {
     Are { inputs: u8, states: u8, next: usize },
     Stopped(Fault, usize),

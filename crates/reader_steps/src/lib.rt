@@ -11,28 +11,28 @@ pub use steps::{byte_at, count_at, output_at, outputs_at};
 pub use words::{inputs_at, length_at, words_at};
 
 // What was read does not matter, only where it ended.
-#[derive(Drop)]
+#[derive(Clone, Copy)]
 pub enum Step {
     Next(usize),
     Stopped(Fault, usize),
 }
 
 // A byte and the place after it.
-#[derive(Drop)]
+#[derive(Clone, Copy)]
 pub enum ByteRead {
     Byte(u8, usize),
     Stopped(Fault, usize),
 }
 
 // A count and the place after it.
-#[derive(Drop)]
+#[derive(Clone, Copy)]
 pub enum CountRead {
     Count(usize, usize),
     Stopped(Fault, usize),
 }
 
 // The section's first word stands at `first`, if it has one.
-#[derive(Drop)]
+#[derive(Clone, Copy)]
 pub enum Section {
     Words {
         first: usize,

@@ -9,7 +9,7 @@ ghost use Rattle.theory.specs.Answers.{value};
 use rules::{File, Refusal};
 
 // Of MISSING the second value is the length of its middle.
-#[derive(Drop)]
+#[derive(Clone, Copy)]
 pub struct Saying {
     pub number: u8,
     pub file: File,

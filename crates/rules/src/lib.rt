@@ -7,16 +7,16 @@ ghost use Rattle.rules.specs.Answers.{file_number, fault_number};
 // The four sorts of number. Each is its own type and its field is private, so that no text outside this crate can use one
 // for another without saying so: `numbered` makes one where a file is read, `number` gives its number where an answer is
 // packed or printed or an entry looked up.
-#[derive(Drop)]
+#[derive(Clone, Copy)]
 pub struct GoldenState(u8);
 
-#[derive(Drop)]
+#[derive(Clone, Copy)]
 pub struct UnitState(u8);
 
-#[derive(Drop)]
+#[derive(Clone, Copy)]
 pub struct Input(u8);
 
-#[derive(Drop)]
+#[derive(Clone, Copy)]
 pub struct Output(u8);
 
 impl GoldenState {
@@ -93,7 +93,7 @@ pub const MOST_UNIT_BYTES: usize = 65535;
 pub const MOST_SHEET_BYTES: usize = 131070;
 
 // The file that a refusal concerns, or the number that was passed.
-#[derive(Drop)]
+#[derive(Clone, Copy)]
 pub enum File {
     Dossier,
     Unit,
@@ -119,7 +119,7 @@ impl File {
 }
 
 // The refusals 1 to 6: what keeps a file from being well formed.
-#[derive(Drop)]
+#[derive(Clone, Copy)]
 pub enum Fault {
     TooLong,
     CutShort,
@@ -145,7 +145,7 @@ impl Fault {
 }
 
 // A middle has at most five inputs: `len` of them, from `a` on. Those beyond are 0.
-#[derive(Drop)]
+#[derive(Clone, Copy)]
 pub struct Middle {
     pub len: u8,
     pub a: Input,
@@ -157,7 +157,7 @@ pub struct Middle {
 
 // The refusals 1 to 21. Those of 1 to 6 are one case: the fault, the file and the byte place. UNREACHED concerns the file that is
 // taken as golden: a dossier, or the unit of find.
-#[derive(Drop)]
+#[derive(Clone, Copy)]
 pub enum Refusal {
     Malformed(Fault, File, usize),
     NoEmptyWord,
@@ -177,21 +177,21 @@ pub enum Refusal {
     Incomplete(UnitState, Input),
 }
 
-#[derive(Drop)]
+#[derive(Clone, Copy)]
 pub enum Checked {
     Accepted,
     Refused(Refusal),
 }
 
 // The length of what was written.
-#[derive(Drop)]
+#[derive(Clone, Copy)]
 pub enum Built {
     Written(usize),
     Refused(Refusal),
 }
 
 // The count of tests; or the place of the test that fails and its first differing step.
-#[derive(Drop)]
+#[derive(Clone, Copy)]
 pub enum Ran {
     Passes(usize),
     Fails(usize, usize),
@@ -199,7 +199,7 @@ pub enum Ran {
 }
 
 // The length of the telling word.
-#[derive(Drop)]
+#[derive(Clone, Copy)]
 pub enum Compared {
     Equal,
     Differs(usize),
@@ -207,7 +207,7 @@ pub enum Compared {
 }
 
 // The place of the test that deviates and its first differing step.
-#[derive(Drop)]
+#[derive(Clone, Copy)]
 pub enum Judged {
     Agrees,
     Deviates(usize, usize),
@@ -215,21 +215,21 @@ pub enum Judged {
 }
 
 // The count of tests and the sum of their lengths.
-#[derive(Drop)]
+#[derive(Clone, Copy)]
 pub enum Costed {
     Cost(usize, usize),
     Refused(Refusal),
 }
 
 // The length of what was written.
-#[derive(Drop)]
+#[derive(Clone, Copy)]
 pub enum Found {
     Written(usize),
     Refused(Refusal),
 }
 
 // The length of what was written.
-#[derive(Drop)]
+#[derive(Clone, Copy)]
 pub enum Imported {
     Written(usize),
     Refused(Refusal),

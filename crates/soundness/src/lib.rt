@@ -8,7 +8,7 @@ mod sound;
 pub use sound::read_sound;
 
 // Nothing to refuse, or the first refusal.
-#[derive(Drop)]
+#[derive(Clone, Copy)]
 pub enum Finding {
     Fine,
     Refused(Refusal),

@@ -15,7 +15,7 @@ use soundness_reach::StateFound;
 use walker::{answer_alike, word_length};
 
 // The place of a word that tells two states apart, if there is one.
-#[derive(Drop)]
+#[derive(Clone, Copy)]
 pub enum Telling {
     By(usize),
     Silent,
@@ -43,7 +43,7 @@ fn find_telling(bytes: &[u8], x: DossierShape, p: GoldenState, q: GoldenState) -
 }
 
 // Places of separating words that told some pair apart.
-#[derive(Drop)]
+#[derive(Clone, Copy)]
 pub struct Known {
     pub places: [usize; 64],
     pub count: usize,
@@ -99,7 +99,7 @@ fn told_by_known(
 }
 
 // Whether two states answer all separating words alike, and the words that are known afterwards.
-#[derive(Drop)]
+#[derive(Clone, Copy)]
 pub struct PairSeen {
     pub alike: bool,
     pub known: Known,
@@ -130,7 +130,7 @@ fn see_pair(bytes: &[u8], x: DossierShape, p: GoldenState, q: GoldenState, known
 }
 
 // The lowest state above p that answers all separating words as p does, and the words that are known afterwards.
-#[derive(Drop)]
+#[derive(Clone, Copy)]
 pub struct RowSeen {
     pub found: StateFound,
     pub known: Known,
@@ -164,7 +164,7 @@ fn see_row(bytes: &[u8], x: DossierShape, p: GoldenState, known: Known) -> RowSe
 }
 
 // Two states that a search found.
-#[derive(Drop)]
+#[derive(Clone, Copy)]
 pub enum PairFound {
     Nowhere,
     At(GoldenState, GoldenState),

@@ -15,7 +15,7 @@ mod words;
 pub use words::has_empty_word;
 
 // The lowest state that a search found.
-#[derive(Drop)]
+#[derive(Clone, Copy)]
 pub enum StateFound {
     Nowhere,
     At(GoldenState),

@@ -85,8 +85,8 @@ add_grows t p (a ∷ w) = omega (arith, step_grows t p a, add_grows (step_trie t
 
 pub add_proper : {t : Trie} → Proper t → (p : ℕ) (w : Word) → p < size t → Proper (add_word t p w)
 unfolding add_word
-add_proper v p [] less = v
-add_proper {t} v p (a ∷ w) less = add_proper (step_proper v p a less) (step_node t p a) w (step_node_lt t p a)
+add_proper {t = t} v p [] less = v
+add_proper {t = t} v p (a ∷ w) less = add_proper {t = step_trie t p a} (step_proper v p a less) (step_node t p a) w (step_node_lt t p a)
 
 -- a word in two parts is put in by parts
 pub add_append : (t : Trie) (p : ℕ) (u w : Word) → add_word t p (u ++ w) ≡ add_word (add_word t p u) (end_of t p u) w

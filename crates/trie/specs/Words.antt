@@ -215,17 +215,17 @@ add_word_kept t p (a ∷ w) i less =
 -- the node of the end has the word
 pub end_word : {t : Trie} → Proper t → (p : ℕ) (w : Word) → p < size t → (end_of t p w < size (add_word t p w)) × (word_of (add_word t p w) (end_of t p w) ≡ word_of t p ++ w)
 unfolding add_word end_of
-end_word {t} v p [] less = (less, sym (append-nil _))
-end_word {t} v p (a ∷ w) less =
-    let (in', e) = end_word (step_proper v p a less) (step_node t p a) w (step_node_lt t p a) in
+end_word {t = t} v p [] less = (less, sym (append-nil _))
+end_word {t = t} v p (a ∷ w) less =
+    let (in', e) = end_word {t = step_trie t p a} (step_proper v p a less) (step_node t p a) w (step_node_lt t p a) in
     (in', e ∙ rw (step_node_word v p a less, append_assoc))
 
 -- the words that a word put in from p adds: p's word and a beginning of the word
 pub add_has : {t : Trie} → Proper t → (p : ℕ) (w : Word) → p < size t → (x : Word) → Has (add_word t p w) x → Has t x ⊎ ((u : Word) × Begins u w × (x ≡ word_of t p ++ u))
 unfolding add_word
-add_has {t} v p [] less x h = inl h
-add_has {t} v p (a ∷ w) less x h =
-    elim (add_has (step_proper v p a less) (step_node t p a) w (step_node_lt t p a) x h) [
+add_has {t = t} v p [] less x h = inl h
+add_has {t = t} v p (a ∷ w) less x h =
+    elim (add_has {t = step_trie t p a} (step_proper v p a less) (step_node t p a) w (step_node_lt t p a) x h) [
       | inl h₁ ↦
           elim (step_has v p a less x h₁) [
             | inl h₂ ↦ inl h₂
@@ -241,27 +241,27 @@ has_add_old t p (a ∷ w) x h = has_add_old (step_trie t p a) (step_node t p a) 
 
 pub has_add_new : {t : Trie} → Proper t → (p : ℕ) (w : Word) → p < size t → (u : Word) → Begins u w → Has (add_word t p w) (word_of t p ++ u)
 unfolding add_word
-has_add_new {t} v p w less [] b = has_add_old t p w _ (p, less, sym (append-nil _))
-has_add_new {t} v p [] less (c ∷ u) (rest, e) =
+has_add_new {t = t} v p w less [] b = has_add_old t p w _ (p, less, sym (append-nil _))
+has_add_new {t = t} v p [] less (c ∷ u) (rest, e) =
     let z : ◌≡◌ {A = ℕ} 0 1 = cc in absurd (omega arith)
-has_add_new {t} v p (a ∷ w) less (c ∷ u) (rest, e) =
+has_add_new {t = t} v p (a ∷ w) less (c ∷ u) (rest, e) =
     let ca : c ≡ a = cc in
     let b : u ++ rest ≡ w = cc in
-    let r = has_add_new (step_proper v p a less) (step_node t p a) w (step_node_lt t p a) u (rest, b) in
+    let r = has_add_new {t = step_trie t p a} (step_proper v p a less) (step_node t p a) w (step_node_lt t p a) u (rest, b) in
     rw ca (rw (step_node_word v p a less, append_assoc) at r)
 
 -- all words
 
 pub all_proper : {t : Trie} → Proper t → (ws : List Word) → Proper (add_all t ws)
 unfolding add_all
-all_proper v [] = v
-all_proper {t} v (w ∷ ws) = all_proper (add_proper v 0 w (size_pos t)) ws
+all_proper {t = t} v [] = v
+all_proper {t = t} v (w ∷ ws) = all_proper {t = add_word t 0 w} (add_proper v 0 w (size_pos t)) ws
 
 pub all_has : {t : Trie} → Proper t → (ws : List Word) (x : Word) → Has (add_all t ws) x → Has t x ⊎ Started ws x
 unfolding add_all
-all_has v [] x h = inl h
-all_has {t} v (w ∷ ws) x h =
-    elim (all_has (add_proper v 0 w (size_pos t)) ws x h) [
+all_has {t = t} v [] x h = inl h
+all_has {t = t} v (w ∷ ws) x h =
+    elim (all_has {t = add_word t 0 w} (add_proper v 0 w (size_pos t)) ws x h) [
       | inl h₁ ↦
           elim (add_has v 0 w (size_pos t) x h₁) [
             | inl h₂ ↦ inl h₂
@@ -277,11 +277,11 @@ has_all_old t (w ∷ ws) x h = has_all_old (add_word t 0 w) ws x (has_add_old t 
 
 pub has_all_new : {t : Trie} → Proper t → (ws : List Word) (x : Word) → Started ws x → Has (add_all t ws) x
 unfolding add_all
-has_all_new v [] x (y, m, b) = absurd (Memᴰ.not-nil m)
-has_all_new {t} v (w ∷ ws) x (y, m, b) =
+has_all_new {t = t} v [] x (y, m, b) = absurd (Memᴰ.not-nil m)
+has_all_new {t = t} v (w ∷ ws) x (y, m, b) =
     elim (Memᴰ.cases_cons m) [
       | inl e ↦ has_all_old (add_word t 0 w) ws x (rw (word_root t) at (has_add_new v 0 w (size_pos t) x (rw e at b)))
-      | inr m₁ ↦ has_all_new (add_proper v 0 w (size_pos t)) ws x (y, m₁, b)
+      | inr m₁ ↦ has_all_new {t = add_word t 0 w} (add_proper v 0 w (size_pos t)) ws x (y, m₁, b)
     ]
 
 pub holding_proper : (ws : List Word) → Proper (holding ws)

@@ -12,21 +12,21 @@ use numbers::wide_link;
 use rules::Input;
 
 // The node that a walk reaches, or none.
-#[derive(Drop)]
+#[derive(Clone, Copy)]
 pub enum Walked {
     At(usize),
     Off,
 }
 
 // The node of a step, and how many nodes there are then; or no room.
-#[derive(Drop)]
+#[derive(Clone, Copy)]
 pub enum Stepped {
     To(usize, usize),
     Full,
 }
 
 // The node of a word's end, and how many nodes there are then; or no room.
-#[derive(Drop)]
+#[derive(Clone, Copy)]
 pub enum Inserted {
     Put(usize, usize),
     Full,

@@ -12,14 +12,14 @@ use texts::copy;
 use trie::child;
 
 // The place behind what was written; or no room.
-#[derive(Drop)]
+#[derive(Clone, Copy)]
 pub enum Visited {
     Done(usize),
     Full,
 }
 
 // How many words there are and the place behind them; or more than the room.
-#[derive(Drop)]
+#[derive(Clone, Copy)]
 pub enum Measured {
     Fits(usize, usize),
     Over,

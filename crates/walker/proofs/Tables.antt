@@ -25,8 +25,8 @@ module _ (s : List ℕ) (p k n q i : ℕ) (hq : q < n) (hi : i < k) where
   pub next_at : (machine_at s p k n).next q i ≡ get_or s (p + entry_width * (q * k + i)) 0
   next_at = ap (λ (e : ℕ × ℕ). e.0) (entry_at s p (n * k) (q * k + i) (entry_inside n k q i hq hi))
 
-  pub output_at : (machine_at s p k n).output q i ≡ output_at s (p + entry_width * (q * k + i) + 1)
-  output_at = ap (λ (e : ℕ × ℕ). e.1) (entry_at s p (n * k) (q * k + i) (entry_inside n k q i hq hi))
+  pub output_at_lem : (machine_at s p k n).output q i ≡ output_at s (p + entry_width * (q * k + i) + 1)
+  output_at_lem = ap (λ (e : ℕ × ℕ). e.1) (entry_at s p (n * k) (q * k + i) (entry_inside n k q i hq hi))
 
 -- and where its place r was found
 module _ (s : List ℕ) (p k n q i r : ℕ) (at : TableAt s p k n) (hq : q < n) (hi : i < k) (e : r ≡ p + entry_width * (q * k + i)) where
@@ -34,7 +34,7 @@ module _ (s : List ℕ) (p k n q i r : ℕ) (at : TableAt s p k n) (hq : q < n) 
   next_found = rw e (sym (next_at s p k n q i hq hi), at.closed (q * k + i) (entry_inside n k q i hq hi))
 
   pub output_found : output_at s (r + 1) ≡ (machine_at s p k n).output q i
-  output_found = rw e (sym (output_at s p k n q i hq hi))
+  output_found = rw e (sym (output_at_lem s p k n q i hq hi))
 
 -- the outputs of a record
 pub outputs_length : (s : List ℕ) (p c : ℕ) → length (outputs_at s p c) ≡ c

@@ -17,7 +17,7 @@ const OUTPUT_WIDTH: usize = 1;
 const ENTRY_WIDTH: usize = 1 + OUTPUT_WIDTH;
 
 // The first step at which two answers differ.
-#[derive(Drop)]
+#[derive(Clone, Copy)]
 pub enum Difference {
     Nowhere,
     At(usize),

@@ -1,0 +1,5 @@
+use borrow.Author.Rules.{rules}
+use Rattle.trie.proofs.noted.Goals as goal
+
+pub returns : goal.returns
+returns c = λ t m n less. n.values _ less

@@ -1,0 +1,6 @@
+use borrow.Author.Rules.{rules}
+use mathlib.Core.Path.{◌∙◌}
+use Rattle.walker.proofs.states_agree.Goals as goal
+
+pub returns : goal.returns
+returns c = c.same_output.ensures ∙ rw (c.golden_output-a.ensures, c.golden_output-b.ensures)
