@@ -30,8 +30,17 @@ def clauses(crates):
             head = head[:stop.start()] if stop else head
             req = re.findall(r"\n\s*requires(?: (\w+))? \{", head)
             ens = re.findall(r"\n\s*ensures(?: (\w+))? \{", head)
-            found.setdefault(m.group(1), []).append((req, ens))
+            found.setdefault(m.group(1), []).append((req, ens, os.path.relpath(path, crates).split("/")[0]))
     return found
+
+
+def below(crates, crate):
+    """The crates that a crate stands on, and itself, by crates.txt."""
+    for line in open(os.path.join(crates, "..", "crates.txt")):
+        name, colon, rest = line.split("#")[0].partition(":")
+        if colon and name.split()[:1] == [crate]:
+            return [crate] + rest.split()
+    return [crate]
 
 
 class Function:
@@ -157,6 +166,22 @@ def is_goal(kind):
 SIG = re.compile(r"^((?:abbrev |pub |unfoldable )*)(" + NAME + r")\s*:\s*(.*)$", re.S)
 
 
+def follows_rw(text, at):
+    """Whether a word `at` belongs to a `rw` or a `simp` before it, and is no variable."""
+    depth, i = 0, at - 1
+    while i >= 0:
+        if text[i] in ")]}":
+            depth += 1
+        elif text[i] in "([{":
+            if depth == 0:
+                break
+            depth -= 1
+        elif depth == 0 and text[i] in ",=":
+            break
+        i -= 1
+    return bool(re.search(r"(?<![\w'-])(rw|simp)(?![\w'-])", text[i + 1:at]))
+
+
 def turn_term(fn, place, term, root, left):
     """A term in which paths from a place become paths from the record of steps. A let that names such a path goes."""
     env = {root: []}
@@ -179,7 +204,7 @@ def turn_term(fn, place, term, root, left):
 
     def one(m):
         fields = full(m.group(1))
-        if fields is None or m.group(1) == "at":  # `rw e at h`
+        if fields is None or m.group(1) == "at" and follows_rw(out, m.start()):
             return m.group(0)
         if not fields:
             return root
@@ -253,7 +278,7 @@ def leading_lets(term):
                     break
         else:
             return "", term
-        lets += t[:i] + "\n"
+        lets += t[:i] + " "
         t = t[i:].strip()
     return lets, t
 
@@ -486,7 +511,11 @@ def main():
     for folder in sys.argv[2:]:
         folder = os.path.abspath(folder)
         crate = os.path.basename(folder)
-        contracts = clauses(os.path.dirname(folder))
+        near = below(os.path.dirname(folder), crate)
+        contracts = {
+            k: [(req, ens) for req, ens, c in sorted(vs, key=lambda v: near.index(v[2]) if v[2] in near else 99) if c in near][:1]
+            for k, vs in clauses(os.path.dirname(folder)).items()
+        }
         every = {}
         for made_names in made.values():
             if isinstance(made_names, dict) and "params" in made_names:
