@@ -179,7 +179,7 @@ def turn_term(fn, place, term, root, left):
 
     def one(m):
         fields = full(m.group(1))
-        if fields is None:
+        if fields is None or m.group(1) == "at":  # `rw e at h`
             return m.group(0)
         if not fields:
             return root
@@ -238,7 +238,7 @@ def leading_lets(term):
     while t.startswith("let "):
         depth, i = 0, 0
         nest = 0
-        for m in re.finditer(r"[(\[{]|[)\]}]|\blet\b|\bin\b", t):
+        for m in re.finditer(r"[(\[{]|[)\]}]|(?<![\w'.-])let(?![\w'-])|(?<![\w'.-])in(?![\w'-])", t):
             w = m.group(0)
             if w in "([{":
                 depth += 1
@@ -258,6 +258,25 @@ def leading_lets(term):
     return lets, t
 
 
+def binders_of(term):
+    """Where the names that a lambda or a product binds hold: from there to the end of the bracket around it."""
+    found = []
+    for m in re.finditer(r"λ ([^.λ]*?)\. ?|\((" + NAME + r"(?: " + NAME + r")*) : ", term):
+        names = set(re.findall(r"[^\s(){}:,;→]+", m.group(1) or m.group(2)))
+        depth, i = (0 if m.group(1) else 1), m.end()
+        opened = depth
+        while i < len(term):
+            if term[i] in "([{":
+                depth += 1
+            elif term[i] in ")]}":
+                depth -= 1
+                if depth < 0:
+                    break
+            i += 1
+        found.append((m.start(), i, names))
+    return found
+
+
 def invariant(fn, item_name, body_args, body, loop, left):
     new, names, changed = loop
     order = [(n, c) for n, c in zip(names, changed)]
@@ -272,10 +291,13 @@ def invariant(fn, item_name, body_args, body, loop, left):
     for b, n in zip(binders[len(order):], [n for n, c in order if c]):
         value[b] = f"l.{n}"
     value.pop("_", None)
+    bound = binders_of(body)
 
     def one(m):
         parts = m.group(1).split(".")
-        return ".".join([value[parts[0]]] + parts[1:]) if parts[0] in value else m.group(0)
+        if parts[0] not in value or any(a <= m.start() < b and parts[0] in names for a, b, names in bound):
+            return m.group(0)
+        return ".".join([value[parts[0]]] + parts[1:])
 
     return IDENT.sub(one, body)
 
@@ -405,6 +427,17 @@ def turn(path, parts_made, crate, rel, contracts):
         parts = None
         if names:
             lets, value = leading_lets(term)
+            inner = any(f.source == goal.split("-")[0] for f in fns) and fn.recursive and "-requires" in goal
+            if inner:
+                both = nested(value)
+                rest = both and (both[1] if len(both) == 2 else "(" + ", ".join(both[1:]) + ")")
+                clauses_of = rest and flattened(rest, len(names))
+                if clauses_of:
+                    fields = clauses_of[-1]
+                    for p in reversed(clauses_of[:-1]):
+                        fields = f"({p}, {fields})"
+                    answers.append(f"pub {goal} : goal.{goal}\n{goal} {before}{root} = {lets.strip() + ' ' if lets else ''}({both[0]}, {fields})")
+                    continue
             parts = flattened(value, len(names))
             if parts:
                 for label, part in zip(names, parts):
