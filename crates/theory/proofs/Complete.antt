@@ -8,7 +8,8 @@ use Rattle.rules.specs.Files.{DossierData, golden, bound}
 use Rattle.rules.specs.Needed.{IsNeeded, IsAccepted}
 use Rattle.theory.specs.Sized.{SizedDossier}
 use Rattle.theory.specs.Machines.{golden_complete, alike_first}
-use Rattle.theory.specs.Suites.{Tried, tried_enough}
+use Rattle.theory.specs.Suites.{Tried}
+use Rattle.theory.proofs.Suites.{tried_enough}
 
 -- A unit that has no more states than the bound of an accepted dossier, and answers every test as the golden does, answers
 -- every word as the golden does.

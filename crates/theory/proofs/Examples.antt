@@ -29,7 +29,7 @@ use Rattle.theory.specs.Compare.{Equal}
 use Rattle.theory.specs.Pairing.{Belongs}
 use Rattle.theory.specs.Outcomes.{fine_injective}
 use Rattle.theory.specs.Writes.{found_builds}
-use Rattle.theory.specs.Demands.{Covered, SheetOf, tests_settle_every_word, allowed_tests_settle_every_word, tests_settle_any_machine, equal_exactly, passes_exactly_when_equal, allowed_passes_exactly_when_equal, agreeing_sheet_settles, allowed_agreeing_sheet_settles, deviating_sheet_tells, equal_machine_agrees}
+use Rattle.theory.proofs.Demands.{Covered, SheetOf, tests_settle_every_word, allowed_tests_settle_every_word, tests_settle_any_machine, equal_exactly, passes_exactly_when_equal, allowed_passes_exactly_when_equal, agreeing_sheet_settles, allowed_agreeing_sheet_settles, deviating_sheet_tells, equal_machine_agrees}
 
 -- the sheet with the golden's answers
 abbrev true_sheet : List ℕ

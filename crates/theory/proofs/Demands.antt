@@ -18,14 +18,15 @@ use Rattle.rules.specs.Promises.{CheckPromise, RunPromise, ComparePromise, Judge
 use Rattle.theory.specs.Lists.{At}
 use Rattle.theory.specs.Machines.{golden_complete}
 use Rattle.theory.specs.Numbering.{MachineOver, AtMost, answers, numbered, numbered_complete, numbered-answers}
-use Rattle.theory.specs.Complete.{complete}
+use Rattle.theory.proofs.Complete.{complete}
 use Rattle.theory.specs.Outcomes.{fine_injective}
 use Rattle.theory.specs.Answers.{check_answer_lem, run_answer_lem, compare_answer_lem, judge_answer_lem}
 use Rattle.theory.specs.Files.{dossier_sized, unit_sized}
 use Rattle.theory.specs.Check.{check_exactly}
 use Rattle.theory.specs.Steps.{step_differs}
 use Rattle.theory.specs.Run.{run_exactly}
-use Rattle.theory.specs.Compare.{Equal, compare_exactly}
+use Rattle.theory.specs.Compare.{Equal}
+use Rattle.theory.proofs.Compare.{compare_exactly}
 use Rattle.theory.specs.Pairing.{Belongs}
 use Rattle.theory.specs.Judge.{FirstDeviating, judge_exactly}
 

@@ -21,7 +21,8 @@ use Rattle.theory.specs.Kiss2
 use Rattle.theory.specs.Kiss2.{said_in, ImportRefuses, import_refuses}
 use Rattle.theory.specs.Kiss2Units.{said_small, good_text_read}
 use Rattle.theory.specs.Compare
-use Rattle.theory.specs.Compare.{CompareRefuses, telling_short, compare_refuses}
+use Rattle.theory.specs.Compare.{CompareRefuses}
+use Rattle.theory.proofs.Compare.{telling_short, compare_refuses}
 use Rattle.bureau_lines.specs.Lines.{telling_room}
 
 -- reading a file never finds that an output is too short

@@ -2,8 +2,8 @@
 -- their states: the class_counting lemma at the n + u states of both, side by side.
 use Rattle.std.specs.Prelude.{◌≡◌, refl, ◌≢◌, ℕ, ◌+◌, ◌-◌, ◌≤◌, ◌<◌, length}
 use Rattle.std.proofs.Math.Logic.{ite, if_pos, if_neg}
-use mathlib.Core.List.{[], ◌∷◌, List-discrete}
-use Rattle.std.proofs.Math.Decide.{ℕ_discrete, dec_lt}
+use mathlib.Core.List.{[], ◌∷◌}
+use Rattle.std.proofs.Math.Decide.{dec_lt}
 use Rattle.std.proofs.Common.{arith}
 use Rattle.rules.specs.Words.{Word, Valid}
 use Rattle.rules.specs.Machines.{Machine, Complete, answer_from, answer}
@@ -54,12 +54,3 @@ module _ (k : ℕ) (G U : Machine) (complete-G : Complete k G) (complete-U : Com
 
       same' : (v : Word) → Valid k v → answer_from (beside G U) (G.states + 0) v ≡ answer U v
       same' v valid_v = as_second v valid_v 0 complete-U.start
-
-  -- If they answer alike every word of at most n + u - 1 inputs, they answer alike every word.
-  pub alike_everywhere : ((v : Word) → Valid k v → length v ≤ G.states + U.states - 1 → answer G v ≡ answer U v)
-      → (w : Word) → Valid k w → answer G w ≡ answer U w
-  alike_everywhere alike w valid =
-      elim (List-discrete ℕ_discrete (answer G w) (answer U w)) [
-        | yes e ↦ e
-        | no differ ↦ let (v, valid_v, short, told) = short_telling w valid differ in absurd (told (alike v valid_v short))
-      ]
