@@ -147,7 +147,12 @@ fn print_judge(rt: &(impl Env + Files + Print)) -> io::Result<()> {
 }
 
 // A file is made only where there is a dossier or a unit to put there, and the line is printed once the file has it.
-fn print_written(rt: &(impl Env + Files + Print), written: BuiltLine, argument: usize, out: &[u8]) -> io::Result<()>
+fn print_written(
+    rt: &(impl Env + Files + Print),
+    written: BuiltLine,
+    argument: usize,
+    out: &[u8],
+) -> io::Result<()>
     requires length_in_bounds { written.length ≤ length out.now }
     requires length_le_line_room { (written.line.length ≤ line_room) × (length written.line.bytes ≡ line_room) }
 {

@@ -2,6 +2,7 @@
 #![tactic(auto)]
 
 ghost use Rattle.std.specs.Prelude.{◌≡◌, length, take};
+ghost use Rattle.std.specs.Io.KnownBytes.{Consumes};
 ghost use Rattle.files.specs.Fronts.{IsPrefixLen};
 
 use std::fs;
@@ -29,9 +30,11 @@ pub fn open_overwrite<R: Files>(rt: &R, name: &[u8]) -> Option<R::File> {
     fs::create(rt, text).ok()
 }
 
-// Reads until buf is full, the file ends or a read fails, and returns how many bytes it put at the start of buf.
+// Reads until buf is full, the file ends or a read fails, and returns how many bytes it put at the start of buf: the first
+// that the file had left.
 pub fn read_full<F: Read>(file: &mut F, buf: &mut [u8]) -> usize
-    ensures { IsPrefixLen result buf.new }
+    ensures within { IsPrefixLen result buf.new }
+    ensures bytes { Consumes (F.remaining file.old) (F.remaining file.new) (take result buf.new) }
 {
     let mut done = 0;
     while done < buf.len() {
