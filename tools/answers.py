@@ -15,8 +15,8 @@ import re
 import sys
 
 NAME = r"[^\s(){}.;,@\"«»:]+"
-IDENT = re.compile(r"(?<![\w.'\-])([A-Za-zα-ωμκλ][\w'₀-₉κ\-]*(?:\.[\w'₀-₉\-]+)*)")
-plain = lambda s: s.replace("_", "-")
+IDENT = re.compile(r"(?<![\w.'\-])([A-Za-zα-ωμκλ][\w'₀-₉κ\-]*(?:\.«?[\w'₀-₉\-]+»?)*)")
+plain = lambda s: s.replace("_", "-").strip("«»")
 
 
 def clauses(crates):
@@ -30,8 +30,17 @@ def clauses(crates):
             head = head[:stop.start()] if stop else head
             req = re.findall(r"\n\s*requires(?: (\w+))? \{", head)
             ens = re.findall(r"\n\s*ensures(?: (\w+))? \{", head)
-            found.setdefault(m.group(1), []).append((req, ens))
+            found.setdefault(m.group(1), []).append((req, ens, os.path.relpath(path, crates).split("/")[0]))
     return found
+
+
+def below(crates, crate):
+    """The crates that a crate stands on, and itself, by crates.txt."""
+    for line in open(os.path.join(crates, "..", "crates.txt")):
+        name, colon, rest = line.split("#")[0].partition(":")
+        if colon and name.split()[:1] == [crate]:
+            return [crate] + rest.split()
+    return [crate]
 
 
 class Function:
@@ -157,6 +166,22 @@ def is_goal(kind):
 SIG = re.compile(r"^((?:abbrev |pub |unfoldable )*)(" + NAME + r")\s*:\s*(.*)$", re.S)
 
 
+def follows_rw(text, at):
+    """Whether a word `at` belongs to a `rw` or a `simp` before it, and is no variable."""
+    depth, i = 0, at - 1
+    while i >= 0:
+        if text[i] in ")]}":
+            depth += 1
+        elif text[i] in "([{":
+            if depth == 0:
+                break
+            depth -= 1
+        elif depth == 0 and text[i] in ",=":
+            break
+        i -= 1
+    return bool(re.search(r"(?<![\w'-])(rw|simp)(?![\w'-])", text[i + 1:at]))
+
+
 def turn_term(fn, place, term, root, left):
     """A term in which paths from a place become paths from the record of steps. A let that names such a path goes."""
     env = {root: []}
@@ -179,7 +204,7 @@ def turn_term(fn, place, term, root, left):
 
     def one(m):
         fields = full(m.group(1))
-        if fields is None:
+        if fields is None or m.group(1) == "at" and follows_rw(out, m.start()):
             return m.group(0)
         if not fields:
             return root
@@ -221,11 +246,16 @@ def nested(term):
     return [p.strip() for p in parts]
 
 
-def flattened(term, n):
+def flattened(term, n, fn=None):
     parts = nested(term)
     while parts and len(parts) < n:
         more = nested(parts[-1])
         if not more:
+            # the rest of the function's own clauses handed on
+            own = re.match(r"^(\w+)\.requires((?:\.1)+)$", parts[-1])
+            rest = fn.pre[own.group(2).count("1"):] if own and fn else []
+            if rest and len(rest) == n - len(parts) + 1:
+                return parts[:-1] + [f"{own.group(1)}.requires.{r}" for r in rest]
             return None
         parts = parts[:-1] + more
     return parts if parts and len(parts) == n else None
@@ -238,7 +268,7 @@ def leading_lets(term):
     while t.startswith("let "):
         depth, i = 0, 0
         nest = 0
-        for m in re.finditer(r"[(\[{]|[)\]}]|\blet\b|\bin\b", t):
+        for m in re.finditer(r"[(\[{]|[)\]}]|(?<![\w'.-])let(?![\w'-])|(?<![\w'.-])in(?![\w'-])", t):
             w = m.group(0)
             if w in "([{":
                 depth += 1
@@ -253,9 +283,28 @@ def leading_lets(term):
                     break
         else:
             return "", term
-        lets += t[:i] + "\n"
+        lets += t[:i] + " "
         t = t[i:].strip()
     return lets, t
+
+
+def binders_of(term):
+    """Where the names that a lambda or a product binds hold: from there to the end of the bracket around it."""
+    found = []
+    for m in re.finditer(r"λ ([^.λ]*?)\. ?|\((" + NAME + r"(?: " + NAME + r")*) : ", term):
+        names = set(re.findall(r"[^\s(){}:,;→]+", m.group(1) or m.group(2)))
+        depth, i = (0 if m.group(1) else 1), m.end()
+        opened = depth
+        while i < len(term):
+            if term[i] in "([{":
+                depth += 1
+            elif term[i] in ")]}":
+                depth -= 1
+                if depth < 0:
+                    break
+            i += 1
+        found.append((m.start(), i, names))
+    return found
 
 
 def invariant(fn, item_name, body_args, body, loop, left):
@@ -272,10 +321,13 @@ def invariant(fn, item_name, body_args, body, loop, left):
     for b, n in zip(binders[len(order):], [n for n, c in order if c]):
         value[b] = f"l.{n}"
     value.pop("_", None)
+    bound = binders_of(body)
 
     def one(m):
         parts = m.group(1).split(".")
-        return ".".join([value[parts[0]]] + parts[1:]) if parts[0] in value else m.group(0)
+        if parts[0] not in value or any(a <= m.start() < b and parts[0] in names for a, b, names in bound):
+            return m.group(0)
+        return ".".join([value[parts[0]]] + parts[1:])
 
     return IDENT.sub(one, body)
 
@@ -287,6 +339,7 @@ def turn(path, parts_made, crate, rel, contracts):
         fn = Function(made)
         fn.recursive, fn.prefix, fn.source = bool(prefix), prefix, prefix
         fn.known = Function.known_params.get(prefix)
+        fn.stem = made.get("stem") or ""
         fns.append(fn)
     text = open(path).read()
     items = split_items(text)
@@ -305,7 +358,7 @@ def turn(path, parts_made, crate, rel, contracts):
             unfolding = item
             continue
         m = SIG.match(item)
-        is_sig = m and not re.match(r"^(?:abbrev |pub |unfoldable )*" + NAME + r"(?:\s+" + NAME + r")*\s+=", item.split(" : ")[0] + " ") and " : " in item.split("=")[0]
+        is_sig = m and not re.match(r"^(?:abbrev |pub |unfoldable )*" + NAME + r"(?:\s+" + NAME + r")*\s+=", item.split(" : ")[0] + " ") and re.search(r" :\s", item.split("=")[0])
         if is_sig:
             signature = (m.group(1), m.group(2), m.group(3))
             unfolding = None
@@ -363,7 +416,8 @@ def turn(path, parts_made, crate, rel, contracts):
                 continue
             new = invariant(fn, name, args, body, loop, left)
             if new is not None:
-                invariants.append(f"abbrev pub {inv.group(1)}-{loop[0]} : goal.{inv.group(1)}-{loop[0]}\n{inv.group(1)}-{loop[0]} l = {new}")
+                label = f"{inv.group(1)}-{fn.stem}{loop[0]}"
+                invariants.append(f"abbrev pub {label} : goal.{label}\n{label} l = {new}")
             continue
         need = re.match(r"^Need-(.*)$", kind_name)
         if not need:
@@ -381,23 +435,24 @@ def turn(path, parts_made, crate, rel, contracts):
         if goal is None:
             left.append(f"no goal for {name} ({old})")
             continue
+        bare, goal = goal, fn.stem + goal
         given = args.split()
         before = given.pop(0) + " " if fn.recursive and len(given) > 1 else ""
         root = given[0] if given else "c"
-        where = fn.asked.get(goal)
+        where = fn.asked.get(bare)
         troubles = []
         term = turn_term(fn, where, body, root, troubles)
         left += [f"{goal}: {t}" for t in troubles]
         names = None
-        if "-requires" in goal:
-            callee = goal.split("-requires")[0]
+        if "-requires" in bare:
+            callee = bare.split("-requires")[0]
             for known, (req, ens) in [(k, v) for k, vs in contracts.items() for v in vs]:
                 if known == callee or callee.startswith(known + "-"):
                     if len(req) >= 2 and all(req):
                         names = req
                         if known == callee:
                             break
-        if goal.startswith("returns"):
+        if bare.startswith("returns"):
             own = contracts.get(fn.source if fn.recursive else rel.split("/")[-1], [])
             for req, ens in own:
                 if len(ens) >= 2 and all(ens):
@@ -405,7 +460,22 @@ def turn(path, parts_made, crate, rel, contracts):
         parts = None
         if names:
             lets, value = leading_lets(term)
-            parts = flattened(value, len(names))
+            inner = any(f.source == bare.split("-")[0] for f in fns) and fn.recursive and "-requires" in bare
+            if inner:
+                both = nested(value)
+                rest = both and (both[1] if len(both) == 2 else "(" + ", ".join(both[1:]) + ")")
+                clauses_of = rest and flattened(rest, len(names))
+                if clauses_of:
+                    fields = clauses_of[-1]
+                    for p in reversed(clauses_of[:-1]):
+                        fields = f"({p}, {fields})"
+                    answers.append(f"pub {goal} : goal.{goal}\n{goal} {before}{root} = {lets.strip() + ' ' if lets else ''}({both[0]}, {fields})")
+                    continue
+            parts = flattened(value, len(names), fn)
+            if not parts and not re.match(r"^\w+\.requires$", value.strip()):
+                # a lemma that gives the clauses as pairs of pairs
+                whole = value.strip() if re.match(r"^[\w.'-]+$", value.strip()) else f"({value.strip()})"
+                parts = [whole + ".1" * i + (".0" if i < len(names) - 1 else "") for i in range(len(names))]
             if parts:
                 for label, part in zip(names, parts):
                     if part == "search rules":
@@ -453,7 +523,11 @@ def main():
     for folder in sys.argv[2:]:
         folder = os.path.abspath(folder)
         crate = os.path.basename(folder)
-        contracts = clauses(os.path.dirname(folder))
+        near = below(os.path.dirname(folder), crate)
+        contracts = {
+            k: [(req, ens) for req, ens, c in sorted(vs, key=lambda v: near.index(v[2]) if v[2] in near else 99) if c in near][:1]
+            for k, vs in clauses(os.path.dirname(folder)).items()
+        }
         every = {}
         for made_names in made.values():
             if isinstance(made_names, dict) and "params" in made_names:

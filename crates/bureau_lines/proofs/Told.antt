@@ -27,7 +27,8 @@ use Rattle.theory.specs.Answers.{compare_answer_lem}
 use Rattle.theory.specs.Bounds.{Fits}
 use Rattle.theory.specs.Files.{dossier_sized}
 use Rattle.theory.specs.Run.{run_refuses, run_exactly}
-use Rattle.theory.specs.Compare.{CompareFinds, compare_gives}
+use Rattle.theory.specs.Compare.{CompareFinds}
+use Rattle.theory.proofs.Compare.{compare_gives}
 use Rattle.line.specs.declared.Line.{Line}
 use Rattle.line.proofs.Verdicts.{passes_line_lem}
 use Rattle.line.proofs.Failing.{valid_wider}

@@ -26,7 +26,7 @@ use Rattle.reader.specs.Shapes.{dossier_read, unit_read}
 use Rattle.reader.specs.Places.{machine_at}
 use Rattle.reader.proofs.Held.{dossier_held, dossier_not_held, unit_held, unit_not_held}
 use Rattle.theory.specs.Machines.{golden_complete}
-use Rattle.theory.specs.Compare.{equal_none, telling_some}
+use Rattle.theory.proofs.Compare.{equal_none, telling_some}
 use Rattle.comparer_pairs.specs.declared.Sides.{Sides}
 use Rattle.comparer_search.specs.declared.Found.{Found}
 use Rattle.comparer_search.specs.declared.Found.TheVariants.{Nowhere, At}

@@ -10,11 +10,11 @@ use Rattle.rules.specs.declared.Judged.{Judged}
 use Rattle.rules.specs.declared.Costed.{Costed}
 use Rattle.rules.specs.declared.Found.{Found}
 use Rattle.rules.specs.declared.Imported.{Imported}
-use Rattle.rules.specs.Answers.{Said, well, check_says, build_says, run_says, compare_says, judge_says, cost_says, find_says, import_says}
+use Rattle.rules.specs.Answers.{Said, well, check_says, build_says, run_says, judge_says, cost_says, find_says, import_says}
 use Rattle.rules.specs.Operations.{Part, part_of, judged_part}
-use Rattle.rules.specs.Promises.{CheckPromise, BuildPromise, RunPromise, ComparePromise, JudgePromise, JudgeWordPromise, CostPromise, FindPromise, ReadKiss2Promise}
+use Rattle.rules.specs.Promises.{CheckPromise, BuildPromise, RunPromise, JudgePromise, JudgeWordPromise, CostPromise, FindPromise, ReadKiss2Promise}
 use Rattle.theory.specs.Answers.{value, check_said, check_said_lem, build_said, build_said_lem, run_said, run_said_lem, compare_said, compare_said_lem, judge_said, judge_said_lem, cost_said, cost_said_lem, find_said, find_said_lem, import_said, import_said_lem}
-use Rattle.theory.specs.Bounds.{Fits, PlainFits, MissingFits, check_fits, build_fits, run_fits, compare_fits, judge_fields_fit, judged_part_fits, cost_fits, find_fits, import_fits}
+use Rattle.theory.specs.Bounds.{Fits, PlainFits, MissingFits, check_fits, build_fits, run_fits, judge_fields_fit, judged_part_fits, cost_fits, find_fits, import_fits}
 use Rattle.hegdorvin_packing.specs.Packed.{packed_plain, packed_missing, packed}
 
 -- the values in a packed MISSING, in the order of the paper
@@ -108,10 +108,10 @@ packed_same s fits =
     plain_values s fits p (suc (suc i)) = sym (beyond s.values (suc (suc i)) (omega (arith, p.few)))
 
 -- Answers that say the same are the same, for each operation whose answer can be made again from what it says.
-abbrev Made : {A : Type 0} → (Said → A) → Type 0
+abbrev pub Made : {A : Type 0} → (Said → A) → Type 0
 Made said = (s t : Said) → Same s t → said s ≡ said t
 
-back : {A : Type 0} (says : A → Said) (said : Said → A) → ((a : A) → said (says a) ≡ a) → Made said → (r : A) → Fits (says r) → said (unpacked (packed (says r))) ≡ r
+pub back : {A : Type 0} (says : A → Said) (said : Said → A) → ((a : A) → said (says a) ≡ a) → Made said → (r : A) → Fits (says r) → said (unpacked (packed (says r))) ≡ r
 back says said again made r fits = made (unpacked (packed (says r))) (says r) (packed_same (says r) fits) ∙ again r
 
 made_check : Made check_said
@@ -123,7 +123,7 @@ made_build s t h = rw (h.number, h.file, h.values 0, h.values 1, h.values 2, h.v
 made_run : Made run_said
 made_run s t h = rw (h.number, h.file, h.values 0, h.values 1, h.values 2, h.values 3, h.values 4, h.values 5, h.values 6, h.values 7)
 
-made_compare : Made compare_said
+pub made_compare : Made compare_said
 made_compare s t h = rw (h.number, h.file, h.values 0, h.values 1, h.values 2, h.values 3, h.values 4, h.values 5, h.values 6, h.values 7)
 
 made_judge : Made judge_said
@@ -147,9 +147,6 @@ build_unpacks bytes out r left promise = back build_says build_said build_said_l
 
 pub run_unpacks : (dossier unit : List ℕ) (r : Ran) → RunPromise dossier unit r → run_said (unpacked (packed (run_says r))) ≡ r
 run_unpacks dossier unit r promise = back run_says run_said run_said_lem made_run r (run_fits dossier unit r promise)
-
-pub compare_unpacks : (dossier unit out : List ℕ) (r : Compared) (left : List ℕ) → ComparePromise dossier unit out r left → compare_said (unpacked (packed (compare_says r))) ≡ r
-compare_unpacks dossier unit out r left promise = back compare_says compare_said compare_said_lem made_compare r (compare_fits dossier unit out r left promise)
 
 pub judge_unpacks : (dossier sheet : List ℕ) (r : Judged) → JudgePromise dossier sheet r → judge_said (unpacked (packed (judge_says r))) ≡ r
 judge_unpacks dossier sheet r promise = back judge_says judge_said judge_said_lem made_judge r (judge_fields_fit dossier sheet r promise)

@@ -1,23 +1,16 @@
 -- Of the refusals only MISSING has the number 11, and its values are small where they fit their fields.
 use Prim.Native.Nat.{ℕ}
 use native.Mathlib.Omega.{arith}
-use mathlib.Core.Path.{refl}
+use mathlib.Core.Path.{◌≡◌, refl}
 use mathlib.Core.Logic.{◌≢◌}
 use mathlib.Core.List.{List, [], ◌∷◌}
-use types.Run.{OneOf, miss}
-use denote.Enum.Declared.{tag_of}
 use Rattle.rules.specs.declared.Fault.{Fault}
 use Rattle.rules.specs.declared.Fault.TheVariants.{TooLong, CutShort, BadNumbers, BadTable, BadWord, Trailing}
 use Rattle.rules.specs.declared.Middle.{Middle}
 use Rattle.rules.specs.declared.Refusal.{Refusal}
 use Rattle.rules.specs.declared.Refusal.TheVariants.{Malformed, NoEmptyWord, Unreached, NoSeparator, NotSeparated, Missing, Repeated, Foreign, Absent, OtherInputs, TooManyStates, NoRoom, NotReduced, BadLine, Contradiction, Incomplete}
 use Rattle.rules.specs.Answers.{fault_number, number_of, refusing}
-use Rattle.rules.specs.contracts.Refusal.{the_type}
 use Rattle.theory.specs.Bounds.{Fits, SmallRefusal}
-
--- all cases of the enum but MISSING, which is the sixth
-abbrev others : List ℕ
-others = 0 ∷ 1 ∷ 2 ∷ 3 ∷ 4 ∷ 6 ∷ 7 ∷ 8 ∷ 9 ∷ 10 ∷ 11 ∷ 12 ∷ 13 ∷ 14 ∷ 15 ∷ []
 
 fault_plain : (f : Fault) → fault_number f ≢ 11
 fault_plain TooLong e = omega arith
@@ -27,13 +20,13 @@ fault_plain BadTable e = omega arith
 fault_plain BadWord e = omega arith
 fault_plain Trailing e = omega arith
 
-pub plain_number : (r : Refusal) → OneOf others (tag_of the_type r) → number_of r ≢ 11
+pub plain_number : (r : Refusal) → ((c : ℕ) (y : Middle) (s : ℕ) → r ≡ Missing c y s → ⊥) → number_of r ≢ 11
 plain_number (Malformed fault f p) other = fault_plain fault
 plain_number NoEmptyWord other = λ e. omega arith
 plain_number (Unreached f q) other = λ e. omega arith
 plain_number NoSeparator other = λ e. omega arith
 plain_number (NotSeparated p q) other = λ e. omega arith
-plain_number (Missing c y s) other = absurd (miss others _ tt other)
+plain_number (Missing c y s) other = absurd (other c y s refl)
 plain_number (Repeated i) other = λ e. omega arith
 plain_number (Foreign i) other = λ e. omega arith
 plain_number (Absent i) other = λ e. omega arith

@@ -17,8 +17,6 @@ use Rattle.rules.specs.declared.Built.{Built}
 use Rattle.rules.specs.declared.Built.TheVariants.{Written, Refused as BuildRefused}
 use Rattle.rules.specs.declared.Ran.{Ran}
 use Rattle.rules.specs.declared.Ran.TheVariants.{Passes, Fails, Refused as RunRefused}
-use Rattle.rules.specs.declared.Compared.{Compared}
-use Rattle.rules.specs.declared.Compared.TheVariants.{Equal, Differs, Refused as CompareRefused}
 use Rattle.rules.specs.declared.Judged.{Judged}
 use Rattle.rules.specs.declared.Judged.TheVariants.{Agrees, Deviates, Refused as JudgeRefused}
 use Rattle.rules.specs.declared.Costed.{Costed}
@@ -31,19 +29,18 @@ use Rattle.rules.specs.Machines.{Machine, answer, answer_from}
 use Rattle.rules.specs.Sizes.{most_test_word, most_inputs, most_dossier_bytes, most_unit_bytes, most_sheet_bytes}
 use Rattle.rules.specs.Lists.{◌∈◌, sum}
 use Rattle.rules.specs.Words.{Word, Valid, same}
-use Rattle.rules.specs.Files.{DossierData, UnitData, SheetRecord, golden, unit, word_bytes, count_bytes, words_bytes, front_bytes, dossier_bytes, record_bytes, sheet_bytes}
+use Rattle.rules.specs.Files.{DossierData, SheetRecord, golden, word_bytes, count_bytes, words_bytes, front_bytes, dossier_bytes, record_bytes, sheet_bytes}
 use Rattle.rules.specs.Reading.{Reader, dossier, unit_table, sheet}
 use Rattle.rules.specs.Operations.{Outcome, fine, refuse, read_file, read_dossier, read_unit, read_sheet, recorded_for, Paired, judge, deviating_of, answered, no_part, test_part, deviating_part, judged_part}
-use Rattle.rules.specs.Answers.{Said, file_number, well, differing, refusing, check_says, build_says, run_says, compare_says, judge_says, cost_says, find_says, import_says}
+use Rattle.rules.specs.Answers.{Said, file_number, well, differing, refusing, check_says, build_says, run_says, judge_says, cost_says, find_says, import_says}
 use Rattle.rules.specs.Kiss2.{lines_of}
-use Rattle.rules.specs.Promises.{CheckPromise, BuildPromise, RunPromise, ComparePromise, JudgePromise, CostPromise, FindPromise, ReadKiss2Promise}
+use Rattle.rules.specs.Promises.{CheckPromise, BuildPromise, RunPromise, JudgePromise, CostPromise, FindPromise, ReadKiss2Promise}
 use Rattle.theory.specs.Sized.{SizedDossier, SizedSheet}
 use Rattle.theory.specs.Lists.{at_in, at_below, found_at}
 use Rattle.theory.specs.Outcomes.{read_refuses}
 use Rattle.theory.specs.Files.{Refusals, dossier_refusals, unit_refusals, sheet_refusals, dossier_sized, unit_sized, sheet_sized}
-use Rattle.theory.specs.Answers.{value, fault_numbers, check_answer_lem, build_answer_lem, run_answer_lem, compare_answer_lem, judge_answer_lem, cost_answer_lem, find_answer_lem, import_answer}
+use Rattle.theory.specs.Answers.{value, fault_numbers, check_answer_lem, build_answer_lem, run_answer_lem, judge_answer_lem, cost_answer_lem, find_answer_lem, import_answer}
 use Rattle.theory.specs.Spelling.{length_flat_map}
-use Rattle.theory.specs.Machines.{golden_complete}
 use Rattle.theory.specs.Steps.{FirstStep}
 use Rattle.theory.specs.Build
 use Rattle.theory.specs.Build.{BuildRefuses, build_exactly}
@@ -55,8 +52,6 @@ use Rattle.theory.specs.Kiss2.{said_in, lines_read, ImportRefuses, good_read, im
 use Rattle.theory.specs.Kiss2Units.{said-table, said_small, good_text_read}
 use Rattle.theory.specs.Run
 use Rattle.theory.specs.Run.{RunRefuses, run_exactly, cost_exactly}
-use Rattle.theory.specs.Compare
-use Rattle.theory.specs.Compare.{Compares, TellingOf, CompareRefuses, telling_short, compare_exactly}
 use Rattle.theory.specs.Pairing
 use Rattle.theory.specs.Pairing.{PairRefuses}
 use Rattle.theory.specs.Judge
@@ -303,28 +298,6 @@ run_fits dossier_file unit_file (Fails i j) p =
     differing_fits (i ∷ j ∷ []) (omega arith) (omega (arith, place, tests)) (omega (arith, below))
 run_fits dossier_file unit_file (RunRefused r) p =
     refusal_fits r (run_small dossier_file unit_file r ((run_exactly dossier_file unit_file (RunRefused r)).0 (sym (run_answer_lem dossier_file unit_file (RunRefused r) p))))
-
--- a telling word has at most 127 inputs
-telling_small : (dossier_file unit_file : List ℕ) (d : DossierData) (u : UnitData) → Compares dossier_file unit_file d u → (w : Word) → TellingOf d u w → Small (length w)
-telling_small dossier_file unit_file d u c w t =
-    let sized = (dossier_sized dossier_file d c.reads).golden in
-    let unit_is = (unit_sized unit_file u c.unit_reads).machine in
-    let short = telling_short d.inputs (golden d) (unit u) (golden_complete sized) (rw c.same_inputs (golden_complete unit_is)) w t in
-    omega (arith, short, sized.few_states, unit_is.few_states)
-
-compare_small : (dossier_file unit_file out : List ℕ) (r : Refusal) → CompareRefuses dossier_file unit_file out r → SmallRefusal r
-compare_small dossier_file unit_file out r (Compare.malformed e) = dossier_small dossier_file r e
-compare_small dossier_file unit_file out r (Compare.malformed_unit d e e') = unit_small unit_file r e'
-compare_small dossier_file unit_file out r (Compare.fifteen d u e e' other is) = rw is tt
-compare_small dossier_file unit_file out r (Compare.seventeen d u c w t short is) = rw is (telling_small dossier_file unit_file d u c w t)
-
-pub compare_fits : (dossier_file unit_file out : List ℕ) (r : Compared) (left : List ℕ) → ComparePromise dossier_file unit_file out r left → Fits (compare_says r)
-compare_fits dossier_file unit_file out Equal left p = well_fits [] (omega arith) (omega arith) (omega arith)
-compare_fits dossier_file unit_file out (Differs n) left p =
-    let (d, u, w, c, t, fits, is) = (compare_exactly dossier_file unit_file out (Differs n)).0 (sym (compare_answer_lem dossier_file unit_file out (Differs n) left p).0) in
-    differing_fits (n ∷ []) (omega arith) (omega (arith, telling_small dossier_file unit_file d u c w t, is)) (omega arith)
-compare_fits dossier_file unit_file out (CompareRefused r) left p =
-    refusal_fits r (compare_small dossier_file unit_file out r ((compare_exactly dossier_file unit_file out (CompareRefused r)).0 (sym (compare_answer_lem dossier_file unit_file out (CompareRefused r) left p).0)))
 
 -- a sheet has at most as many records as bytes
 records_small : (k : ℕ) (rs : List SheetRecord) → SizedSheet k rs → Small (length rs)

@@ -70,9 +70,9 @@ follow_unskipped before (term t) =
     in
     let room : List Field → Bool =
     λ names.
-        not (ended before) && any (eqb (length t.cube)) (numbers_in (text ".i") before) && any (eqb (length t.output)) (numbers_in (text ".o") before)
-        && all (leb (suc (length (terms_in before)))) (numbers_in (text ".p") before)
-        && all (leb (length names)) (most_states ∷ numbers_in (text ".s") before)
+    not (ended before) && any (eqb (length t.cube)) (numbers_in (text ".i") before) && any (eqb (length t.output)) (numbers_in (text ".o") before)
+    && all (leb (suc (length (terms_in before)))) (numbers_in (text ".p") before)
+    && all (leb (length names)) (most_states ∷ numbers_in (text ".s") before)
     in
     rw (
       ended-unskipped before,

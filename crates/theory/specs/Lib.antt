@@ -18,9 +18,7 @@ pub mod Machines
 pub mod Numbering
 pub mod Ways
 pub mod Suites
-pub mod Complete
 pub mod Classes
-pub mod Telling
 pub mod Access
 pub mod Distances
 pub mod Breadth
@@ -44,8 +42,6 @@ pub mod Kiss2Lines
 pub mod Kiss2
 pub mod Kiss2Units
 pub mod Kiss2Skipped
-pub mod Demands
 pub mod Writes
-pub mod Examples
 pub mod Bounds
 pub mod FoundSize

@@ -22,7 +22,6 @@ use Rattle.theory.specs.Answers.{build_answer_lem, compare_answer_lem, find_answ
 use Rattle.theory.specs.Build.{build_gives, sound_builds}
 use Rattle.theory.specs.Files.{unit_sized}
 use Rattle.theory.specs.Find.{Drafts, find_gives, found_sound, found_reads_back}
-use Rattle.theory.specs.Compare.{compare_gives}
 use Rattle.theory.specs.Kiss2.{said_in, Imports, import_gives}
 use Rattle.theory.specs.Kiss2Units.{imported_reads_back}
 
@@ -32,7 +31,7 @@ pub record WrittenTo (out left w : List ℕ) : Type 0 where
   pub later : drop (length w) left ≡ drop (length w) out
   pub size : length left ≡ length out
 
-written_to : (out w : List ℕ) → length w ≤ length out → WrittenTo out (overwritten w out) w
+pub written_to : (out w : List ℕ) → length w ≤ length out → WrittenTo out (overwritten w out) w
 written_to out w fits =
     record {
       front = take-append_seam w (drop (length w) out);
@@ -84,24 +83,6 @@ module _ (dossier unit out left : List ℕ) where
       kept (inr (s, e)) h = rw e
       kept (inl (none, e)) h = rw e
       kept (inl (some w, e)) h = absurd ((rw e at h) tt)
-
-  -- Where they differ, the telling word stands at the front of the output, and later bytes stay.
-  pub differs_writes : (n : ℕ) → ComparePromise dossier unit out (Differs n) left
-      → (w : List ℕ) × (n ≡ length w) × (compare dossier unit out ≡ fine (some w)) × WrittenTo out left w
-  differs_writes n promise =
-      let (answer, output) = compare_answer_lem dossier unit out (Differs n) left promise in
-      wrote (settled (compare dossier unit out)) answer output
-    where
-      wrote : ((o : Option (List ℕ)) × (compare dossier unit out ≡ fine o)) ⊎ ((s : Refusal) × (compare dossier unit out ≡ refuse s))
-          → Differs n ≡ compare_answer dossier unit out → left ≡ compare_output dossier unit out
-          → (w : List ℕ) × (n ≡ length w) × (compare dossier unit out ≡ fine (some w)) × WrittenTo out left w
-      wrote (inr (s, e)) h l = let z : Differs n ≡ CompareRefused s = rw e at h in let no : ◌≡◌ {A = ℕ} 0 1 = cc in absurd (omega arith)
-      wrote (inl (none, e)) h l = let z : Differs n ≡ Alike = rw e at h in let no : ◌≡◌ {A = ℕ} 0 1 = cc in absurd (omega arith)
-      wrote (inl (some w, e)) h l =
-          let (d, u, c, (t, fits)) = rw e at (compare_gives dossier unit out) in
-          let is : n ≡ length w = cc (rw e at h) in
-          let left_is : left ≡ overwritten w out = rw e at l in
-          (w, is, e, rw left_is (written_to out w fits))
 
 module _ (unit : List ℕ) (bound : ℕ) (out left : List ℕ) where
   -- A refused find changes no byte of its output.

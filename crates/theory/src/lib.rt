@@ -1,3 +1,2 @@
-// What is true of the rules. All of it stands in specs/.
+// What is true of the rules. The completeness theorem, the bound on telling words and what rests on them stand in proofs/, all else in specs/.
 #![tactic(auto)]
-

@@ -1,6 +1,6 @@
 use Rattle.bureau_lines.proofs.Told.{fits_told, equal_told, uncompared_told, telling, telling_spelled, differs_told}
 use Rattle.rules.specs.Answers.{compare_says}
-use Rattle.theory.specs.Bounds.{compare_fits}
+use Rattle.theory.proofs.Bounds.{compare_fits}
 use borrow.Author.Rules.{rules}
 use Rattle.bureau_lines.proofs.compare_line.Statement.{statement}
 use Rattle.bureau_lines.proofs.compare_line.Tie as tie

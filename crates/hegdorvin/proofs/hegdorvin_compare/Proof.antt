@@ -1,5 +1,5 @@
 use mathlib.Core.Path.{◌∙◌, ap}
-use Rattle.theory.specs.Bounds.{compare_fits}
+use Rattle.theory.proofs.Bounds.{compare_fits}
 use Rattle.hegdorvin_packing.specs.Packed.{packed}
 use borrow.Author.Rules.{rules}
 use Rattle.hegdorvin.proofs.hegdorvin_compare.Statement.{statement}

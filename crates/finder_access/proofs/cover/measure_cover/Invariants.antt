@@ -1,0 +1,18 @@
+use Prim.Native.Nat.{◌+◌, ◌*◌, ◌-◌, ◌≤◌}
+use mathlib.Core.Path.{◌≡◌, ap}
+use mathlib.Core.List.{flat_map}
+use native.Mathlib.Omega.{arith}
+use borrow.Author.Rules.{rules}
+use lib.ListN.{length}
+use Rattle.rules.specs.Sizes.{most_states}
+use Rattle.rules.specs.Files.{UnitData, word_bytes}
+use Rattle.rules.specs.Find.{found_cover}
+use Rattle.finder_access.specs.Reached.{Reaches, word_to}
+use Rattle.finder_access.proofs.Covering.{bytes_from, cover_start, cover_end, cover_longer}
+use Rattle.finder_access.proofs.cover.measure_cover.Given as goal
+
+abbrev pub invariant-loop-q : goal.invariant-loop-q
+invariant-loop-q l = (l.q ≤ l.states) × (l.n ≤ most_states * l.q) × ((u : UnitData) → Reaches u l.queue l.places → u.states ≡ l.states → l.n + length (bytes_from u l.q (l.states - l.q)) ≡ length (flat_map word_bytes (found_cover u)))
+
+abbrev pub decreases-loop-q : goal.decreases-loop-q
+decreases-loop-q l = l.states - l.q

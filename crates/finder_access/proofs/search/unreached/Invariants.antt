@@ -1,0 +1,18 @@
+use Prim.Native.Nat.{◌≤◌, ◌-◌}
+use mathlib.Core.Path.{◌≡◌, sym, ap, ◌∙◌}
+use native.Mathlib.Omega.{arith}
+use borrow.Author.Rules.{rules}
+use Rattle.rules.specs.Lists.{first, numbers_from}
+use Rattle.rules.specs.Files.{UnitData}
+use Rattle.rules.specs.Find.{unreachable}
+use Rattle.soundness_reach.specs.Reached.{state_found}
+use Rattle.soundness_reach.proofs.Marks.{state_found_lem}
+use Rattle.finder_access.specs.Reached.{Marks}
+use Rattle.finder_access.proofs.Covering.{lacking, lowest_lacking, lacks_here, lacks_later, lacks_none}
+use Rattle.finder_access.proofs.search.unreached.Given as goal
+
+abbrev pub invariant-loop-q : goal.invariant-loop-q
+invariant-loop-q l = (l.q ≤ l.states) × ((u : UnitData) → Marks u l.places → u.states ≡ l.states → unreachable u ≡ first (lacking u) (numbers_from l.q (l.states - l.q)))
+
+abbrev pub decreases-loop-q : goal.decreases-loop-q
+decreases-loop-q l = l.states - l.q

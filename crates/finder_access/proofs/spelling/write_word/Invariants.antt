@@ -1,0 +1,16 @@
+use Prim.Native.Nat.{ℕ, ◌+◌, ◌≤◌}
+use mathlib.Core.Path.{◌≡◌, refl, ◌∙◌}
+use native.Mathlib.Omega.{arith}
+use borrow.Author.Rules.{rules}
+use lib.ListN.{length, length-set}
+use lib.Seq.{sets}
+use Rattle.rules.specs.Words.{Word}
+use Rattle.finder_access.specs.Queue.{Spelt}
+use Rattle.finder_access.proofs.Backwards.{back_less, back_length, back_written, back_start}
+use Rattle.finder_access.proofs.spelling.write_word.Given as goal
+
+abbrev pub invariant-loop-at : goal.invariant-loop-at
+invariant-loop-at l = (l.at ≤ l.place) × (length l.out ≡ length l.initial.out) × ((word : ℕ → Word) → Spelt l.queue (l.place + 1) word → (l.n + length (word l.at) ≡ l.len) × (sets l.out l.start (word l.at) ≡ sets l.initial.out l.start (word l.place)))
+
+abbrev pub decreases-loop-at : goal.decreases-loop-at
+decreases-loop-at l = l.at

@@ -1,0 +1,23 @@
+use mathlib.Core.Path.{refl}
+use native.Mathlib.Omega.{arith}
+use Rattle.hegdorvin_packing.proofs.Laws.{plain_packed}
+use borrow.Author.Rules.{rules}
+use Rattle.hegdorvin_packing.proofs.ran.Goals as goal
+
+pub plain-requires : goal.plain-requires
+plain-requires c = let f = rw c.in-Passes.is at c.requires in (omega arith, omega arith, (f.plain (λ e. omega arith)).first, omega arith)
+
+pub plain-requires-in-Fails : goal.plain-requires-in-Fails
+plain-requires-in-Fails c = let f = rw c.in-Fails.is at c.requires in (omega arith, omega arith, (f.plain (λ e. omega arith)).first, (f.plain (λ e. omega arith)).second)
+
+pub refusal-requires : goal.refusal-requires
+refusal-requires c = rw c.in-Refused.is at c.requires
+
+pub returns-in-Passes : goal.returns-in-Passes
+returns-in-Passes c = rw c.in-Passes.is (plain_packed _ _ _ _ _ _ c.plain.ensures refl refl refl refl (λ h. omega arith))
+
+pub returns-in-Fails : goal.returns-in-Fails
+returns-in-Fails c = rw c.in-Fails.is (plain_packed _ _ _ _ _ _ c.plain-in-Fails.ensures refl refl refl refl (λ h. omega arith))
+
+pub returns-in-Refused : goal.returns-in-Refused
+returns-in-Refused c = rw c.in-Refused.is c.refusal.ensures

@@ -1,0 +1,12 @@
+use Rattle.importer_names.proofs.Table.{named_is, other_size, other_last}
+use borrow.Author.Rules.{rules}
+use Rattle.importer_names.proofs.is_named.Goals as goal
+
+pub returns-then-end-start : goal.returns-then-end-start
+returns-then-end-start c = other_size c.args.names.now c.args.lengths.now c.args.text.now c.args.part c.args.j c.wide-size.result c.requires.slot_in c.requires.field_in c.wide-size.ensures.0 c.if-end-start.true
+
+pub returns-then-names-to : goal.returns-then-names-to
+returns-then-names-to c = other_last c.args.names.now c.args.lengths.now c.args.text.now c.args.part c.args.j c.wide-size.result c.requires.slot_in c.requires.field_in c.wide-size.ensures.0 c.if-end-start.false c.if-names-to.true
+
+pub returns : goal.returns
+returns c = named_is c.args.names.now c.args.lengths.now _ c.args.j c.wide-size.result _ c.wide-size.ensures.0 c.same_text.ensures

@@ -1,0 +1,5 @@
+use borrow.Author.Rules.{rules}
+use Rattle.importer_says.proofs.lines.is_directive.Goals as goal
+
+pub returns : goal.returns
+returns c = rw (← c.name_of-name.ensures) c.same_text.ensures

@@ -1,0 +1,12 @@
+use Rattle.importer_terms.proofs.Differing.{NoneAgainst, against_start, against_next, against_found, none_against}
+use Prim.Native.Nat.{◌-◌}
+use native.Mathlib.Omega.{arith}
+use borrow.Author.Rules.{rules}
+use Rattle.rules.specs.Sizes.{most_inputs}
+use Rattle.importer_terms.proofs.contradictions.contradicts.Given as goal
+
+abbrev pub invariant-loop-i : goal.invariant-loop-i
+invariant-loop-i l = NoneAgainst l.text l.term l.nexts l.outputs l.i
+
+abbrev pub decreases-loop-i : goal.decreases-loop-i
+decreases-loop-i l = most_inputs - l.i

@@ -1,0 +1,13 @@
+use Rattle.importer_terms.proofs.Entering.{Putting, putting_start, putting_next, entries_put}
+use Prim.Native.Nat.{◌-◌}
+use mathlib.Core.Path.{◌∙◌}
+use native.Mathlib.Omega.{arith}
+use borrow.Author.Rules.{rules}
+use Rattle.rules.specs.Sizes.{most_inputs}
+use Rattle.importer_terms.proofs.entries.put_term.Given as goal
+
+abbrev pub invariant-loop-i : goal.invariant-loop-i
+invariant-loop-i l = Putting l.text l.term l.initial.nexts l.initial.outputs l.i l.nexts l.outputs
+
+abbrev pub decreases-loop-i : goal.decreases-loop-i
+decreases-loop-i l = most_inputs - l.i

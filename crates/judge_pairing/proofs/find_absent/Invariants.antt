@@ -1,0 +1,18 @@
+use Prim.Native.Nat.{ℕ, ◌-◌}
+use native.Mathlib.Omega.{arith}
+use mathlib.Core.List.{List}
+use mathlib.Core.Bool.{not}
+use Rattle.rules.specs.Words.{is_in}
+use Rattle.rules.specs.Files.{SheetRecord}
+use Rattle.judge_records.specs.Filed.{Filed, words_of}
+use Rattle.judge_records.proofs.Standing.{WordsLeft, WordScan, words_begin, word_whole, words_next, word_scan_begin}
+use Rattle.judge_records.proofs.Looking.{record_none, record_some}
+use Rattle.judge_pairing.proofs.Pairs.{absent-found, absent_next, absent_end}
+use borrow.Author.Rules.{rules}
+use Rattle.judge_pairing.proofs.find_absent.Given as goal
+
+abbrev pub invariant-loop-i : goal.invariant-loop-i
+invariant-loop-i l = WordsLeft l.dossier l.place l.inputs l.count l.i l.word × ((s : List ℕ) (k : ℕ) (rs : List SheetRecord) → Filed s k rs l.label l.first l.next l.value → WordScan (λ (i, t). not (is_in t (words_of rs))) l.dossier l.place l.count l.i l.word)
+
+abbrev pub decreases-loop-i : goal.decreases-loop-i
+decreases-loop-i l = l.count - l.i

@@ -1,0 +1,13 @@
+use Rattle.trie.specs.Grow.{size_pos}
+use Rattle.judge_pairing.proofs.Marks.{node_inside, marking_at, marking_off}
+use borrow.Author.Rules.{rules}
+use Rattle.judge_pairing.proofs.foreign.mark_test.Goals as goal
+
+pub mark-requires : goal.mark-requires
+mark-requires c = node_inside _ _ _ c.requires.node.holds.proper (c.walk_word.ensures _ c.requires.node.holds c.requires.node.below) _ _ _ c.args.marks.now _ c.requires.node.holds c.requires.marks_len c.in-At.is
+
+pub returns-in-At : goal.returns-in-At
+returns-in-At c = λ t all rest h x. marking_at t _ _ h.proper (c.walk_word.ensures t h (size_pos t)) _ c.in-At.is all rest _ _ x (λ ws noted less. c.mark.ensures t ws h.proper noted less)
+
+pub returns-in-Off : goal.returns-in-Off
+returns-in-Off c = λ t all rest h x. marking_off t _ _ h.proper (c.walk_word.ensures t h (size_pos t)) c.in-Off.is all rest _ x

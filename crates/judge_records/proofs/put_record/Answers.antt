@@ -1,0 +1,28 @@
+use native.Mathlib.Omega.{arith}
+use Rattle.trie.specs.Values.{insert_below}
+use Rattle.judge_records.proofs.Filing.{counted_root, put_old, put_new, put_full}
+use borrow.Author.Rules.{rules}
+use Rattle.judge_records.proofs.put_record.Goals as goal
+
+pub put_word-requires-clause-whole : goal.put_word-requires-clause-whole
+put_word-requires-clause-whole c = c.requires.whole.0
+
+pub put_word-requires-clause-counted : goal.put_word-requires-clause-counted
+put_word-requires-clause-counted c = counted_root c.requires.counted
+
+pub noted-requires : goal.noted-requires
+noted-requires c = let done = c.put_word.ensures _ c.requires.counted.holds c.requires.counted.counted in
+    omega (arith, (insert_below _ _ _ _ _ _ _ _ c.requires.counted.holds.proper done c.in-Put.is).0, c.put_word.auto.label, c.requires.value_len)
+
+pub returns-then-noted-ne0 : goal.returns-then-noted-ne0
+returns-then-noted-ne0 c = λ t m h noted e. put_old t m _ _ _ _ _ _ _ _ _ h noted (c.put_word.ensures t h e) _ _ c.in-Put.is _ c.noted.ensures c.args.place c.if-noted-ne0.true
+
+pub note-requires : goal.note-requires
+note-requires c = let done = c.put_word.ensures _ c.requires.counted.holds c.requires.counted.counted in
+    omega (arith, (insert_below _ _ _ _ _ _ _ _ c.requires.counted.holds.proper done c.in-Put.is).0, c.put_word.auto.label, c.requires.value_len)
+
+pub returns-else-noted-ne0 : goal.returns-else-noted-ne0
+returns-else-noted-ne0 c = λ t m h noted e. put_new t m _ _ _ _ _ _ _ _ _ h noted (c.put_word.ensures t h e) _ _ c.in-Put.is _ c.noted.ensures _ _ c.if-noted-ne0.false c.note.ensures
+
+pub returns-in-Full : goal.returns-in-Full
+returns-in-Full c = λ t m h noted e. put_full t m _ _ _ _ _ _ _ _ _ h noted (c.put_word.ensures t h e) c.args.place c.in-Full.is

@@ -1,0 +1,12 @@
+use borrow.Author.Rules.{rules}
+use Rattle.texts.proofs.Alike.{Alike, other_length, alike_start, alike_end, alike_inside, alike_next, alike_other}
+use Prim.Native.Nat.{◌-◌}
+use native.Mathlib.Omega.{arith}
+use lib.ListN.{length}
+use Rattle.texts.proofs.same_text.Given as goal
+
+abbrev pub invariant-loop-i : goal.invariant-loop-i
+invariant-loop-i l = Alike l.given l.name l.i
+
+abbrev pub decreases-loop-i : goal.decreases-loop-i
+decreases-loop-i l = length l.name - l.i

@@ -1,0 +1,9 @@
+pub mod Suites
+pub mod Complete
+pub mod Telling
+pub mod Alike
+pub mod Compare
+pub mod Bounds
+pub mod Writes
+pub mod Demands
+pub mod Examples

@@ -1,0 +1,23 @@
+use borrow.Author.Rules.{rules}
+use Prim.Native.Nat.{ℕ, ◌+◌, ◌-◌, ◌≤◌, ◌<◌}
+use mathlib.Core.Path.{◌≡◌, refl, sym, ◌∙◌}
+use mathlib.Core.List.{[], ◌∷◌, ◌++◌}
+use native.Mathlib.Omega.{arith}
+use lib.ListN.{length}
+use Rattle.rules.specs.Words.{Word}
+use Rattle.trie.specs.Model.{Trie, size, word_of}
+use Rattle.trie.specs.Holds.{Holds}
+use Rattle.trie.specs.Grow.{child_lt}
+use Rattle.trie.specs.Words.{child_gt}
+use Rattle.trie_lister.proofs.Writes.{visiting_level, visiting_child, visiting_down}
+use Rattle.trie_lister.proofs.Measures.{fits_bounds, deeper, measure_leaf, measure_over, Measuring, measuring_start, measuring_skip, measuring_more, measuring_over, measuring_end}
+use Rattle.trie_lister.proofs.+measure.Given as goal
+
+abbrev pub decreases-measure : goal.decreases-measure
+decreases-measure l = length l.label.now - l.node
+
+abbrev pub invariant-loop-a : goal.invariant-loop-a
+invariant-loop-a l = (l.a ≤ l.k) × (l.n ≤ l.pos) × (l.pos ≤ l.room) × ((s : Trie) → Holds s l.label l.first l.next → l.node < size s → (d : ℕ) → size s ≤ l.node + d → (u : Word) → length u ≡ l.depth → Measuring s l.k d l.node u l.words l.at l.room l.a l.n l.pos)
+
+abbrev pub decreases-loop-a : goal.decreases-loop-a
+decreases-loop-a l = l.k - l.a

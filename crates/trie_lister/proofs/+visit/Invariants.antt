@@ -1,0 +1,21 @@
+use borrow.Author.Rules.{rules}
+use Prim.Native.Nat.{◌≤◌, ◌-◌, ◌+◌}
+use mathlib.Core.Path.{◌≡◌, refl, sym, ◌∙◌}
+use native.Mathlib.Omega.{arith}
+use lib.ListN.{length, take, length-set}
+use Rattle.trie.specs.Model.{Trie, size}
+use Rattle.trie.specs.Holds.{Holds}
+use Rattle.trie.specs.Grow.{child_lt}
+use Rattle.trie_lister.proofs.Writes.{Written, written_start, written_skip, written_more, written_full, written_end, visit_leaf, visiting_level, visiting_child, visiting_room, visiting_down, prefix_next, prefix_kept}
+use Rattle.trie.specs.Words.{child_gt}
+use Prim.Native.Nat.{ℕ, ◌<◌}
+use Rattle.trie_lister.proofs.+visit.Given as goal
+
+abbrev pub decreases-visit : goal.decreases-visit
+decreases-visit l = length l.label.now - l.node
+
+abbrev pub invariant-loop-a : goal.invariant-loop-a
+invariant-loop-a l = (l.a ≤ l.k) × (l.pos ≤ length l.out) × (length l.path ≡ length l.initial.path) × (length l.out ≡ length l.initial.out) × (take l.depth l.path ≡ take l.depth l.initial.path) × ((s : Trie) → Holds s l.label l.first l.next → l.node < size s → (d : ℕ) → size s ≤ l.node + d → Written s l.k d l.node (take l.depth l.initial.path) l.initial.out l.at l.a l.pos l.out)
+
+abbrev pub decreases-loop-a : goal.decreases-loop-a
+decreases-loop-a l = l.k - l.a
