@@ -256,7 +256,7 @@ def build_lock():
 def build(lock):
     see_toolchain()
     sources = sources_digest()
-    complain("building the proved program, which takes some minutes where nothing is proved yet")
+    complain("building the proved program, which takes long where nothing is proved yet")
     prove(lock)
     keep(sources)
 
