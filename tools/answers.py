@@ -65,6 +65,10 @@ class Function:
         return self.known or []
 
 
+def alike(step):
+    return re.sub(r"_lem$|[-_]|Is", "", step).lower()
+
+
 def numbered(rest, names):
     """The place that a chain as 1.1.0 names, as its name, and the fields behind it."""
     i = 0
@@ -126,12 +130,12 @@ def walk(fn, place, fields, root):
             rest = (clause(rest[1:], fn.pre) or rest[1:]) if len(fn.pre) > 1 else rest[1:]
     if field in ("args", "decreases", "requires", "ranges", "pre", "well_formed", "type_inv", "utf8"):
         return ("path", ".".join([root, {"pre": "requires"}.get(field, field)] + rest))
-    at = place
+    at, tries = place, 0
     while at is not None:
-        if fn.before(at) is None and place != asked:
-            at, place = asked, asked  # a step that today stands elsewhere on the way
+        if fn.before(at) is None and tries < 2:
+            at, tries = asked, tries + 1  # a step that today stands elsewhere on the way, or is spelt otherwise
         old = fn.places[at]
-        if plain(old[2][0]) == plain(field):
+        if plain(old[2][0]) == plain(field) or tries and alike(old[2][0]) == alike(field):
             arm = fn.arms.get(at)
             if arm:
                 for name, step, path in arm[2]:
@@ -139,7 +143,9 @@ def walk(fn, place, fields, root):
                         return ("path", ".".join([root, arm[0], name] + rest[len(path):]))
             new = ".".join([root, old[2][1]] + behind_a_call(fn, at, rest))
             # a test of `!b` now says what b is
-            return ("path", f"(ap not {new})" if "-not-" in old[2][1] and rest and rest[0] in ("true", "false") else new)
+            call = old[2][1].partition("-not-")[2]
+            negated = call and rest and rest[0] in ("true", "false") and any(p[3] and p[2][1] == call for p in fn.places.values())
+            return ("path", f"(ap not {new})" if negated else new)
         at = fn.before(at)
     return ("path?", ".".join([root, field] + rest))
 
@@ -256,7 +262,10 @@ def flattened(term, n, fn=None):
             rest = fn.pre[own.group(2).count("1"):] if own and fn else []
             if rest and len(rest) == n - len(parts) + 1:
                 return parts[:-1] + [f"{own.group(1)}.requires.{r}" for r in rest]
-            return None
+            # a lemma that gives the rest as pairs of pairs
+            left = n - len(parts) + 1
+            whole = parts[-1] if re.match(r"^[\w.'-]+$", parts[-1]) else f"({parts[-1]})"
+            return parts[:-1] + [whole + ".1" * i + (".0" if i < left - 1 else "") for i in range(left)]
         parts = parts[:-1] + more
     return parts if parts and len(parts) == n else None
 
@@ -441,22 +450,21 @@ def turn(path, parts_made, crate, rel, contracts):
         root = given[0] if given else "c"
         where = fn.asked.get(bare)
         troubles = []
+        body = re.sub(r", [\w'.-]+\.well-formed[\d.]*", "", body)  # arithmetic reads what types say of a length
         term = turn_term(fn, where, body, root, troubles)
         left += [f"{goal}: {t}" for t in troubles]
         names = None
         if "-requires" in bare:
-            callee = bare.split("-requires")[0]
-            for known, (req, ens) in [(k, v) for k, vs in contracts.items() for v in vs]:
-                if known == callee or callee.startswith(known + "-"):
-                    if len(req) >= 2 and all(req):
-                        names = req
-                        if known == callee:
-                            break
+            step = bare[: bare.index("-requires")] + bare[bare.index("-requires") + len("-requires"):]
+            callee = next((p[3] for p in fn.places.values() if p[3] and p[2][1] in (step, bare.split("-requires")[0])), None)
+            key = (callee.split("::")[0], callee.split("::")[-1]) if callee else bare.split("-requires")[0].split("-")[0]
+            req = contracts.get(key, ([], []))[0]
+            if len(req) >= 2 and all(req):
+                names = req
         if bare.startswith("returns"):
-            own = contracts.get(fn.source if fn.recursive else rel.split("/")[-1], [])
-            for req, ens in own:
-                if len(ens) >= 2 and all(ens):
-                    names = ens
+            ens = contracts.get((crate, fn.source if fn.recursive else rel.split("/")[-1]), ([], []))[1]
+            if len(ens) >= 2 and all(ens):
+                names = ens
         parts = None
         if names:
             lets, value = leading_lets(term)
@@ -489,6 +497,7 @@ def turn(path, parts_made, crate, rel, contracts):
     folder = os.path.dirname(path)
     module = f"Rattle.{crate}.proofs.{rel.replace('/', '.')}"
     use = "\n".join(uses)
+    answers = [re.sub(r"([{;]\s*)([a-z][\w']*(?:-[\w']+)+)(?= = )", lambda m: m.group(1) + m.group(2).replace("-", "_"), a) for a in answers]
     real = [a for a in answers if not a.startswith("--")]
     if any("(ap not " in a for a in real):
         for word, line in (("ap", "use Rattle.std.proofs.Common.{ap}"), ("not", "use Rattle.std.specs.Prelude.{not}")):
@@ -524,10 +533,14 @@ def main():
         folder = os.path.abspath(folder)
         crate = os.path.basename(folder)
         near = below(os.path.dirname(folder), crate)
-        contracts = {
-            k: [(req, ens) for req, ens, c in sorted(vs, key=lambda v: near.index(v[2]) if v[2] in near else 99) if c in near][:1]
-            for k, vs in clauses(os.path.dirname(folder)).items()
-        }
+        contracts = {}
+        for k, vs in clauses(os.path.dirname(folder)).items():
+            for req, ens, c in vs:
+                contracts.setdefault((c, k), (req, ens))
+            for c in reversed(near):
+                for req, ens, d in vs:
+                    if d == c:
+                        contracts[k] = (req, ens)
         every = {}
         for made_names in made.values():
             if isinstance(made_names, dict) and "params" in made_names:

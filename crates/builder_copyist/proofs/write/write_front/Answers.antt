@@ -1,0 +1,6 @@
+use Rattle.builder_copyist.proofs.Writing.{front_written}
+use borrow.Author.Rules.{rules}
+use Rattle.builder_copyist.proofs.write.write_front.Goals as goal
+
+pub returns : goal.returns
+returns c = front_written _ _ _ _ _ c.requires.0 c.requires.1 c.copy.ensures _ c.write_count.ensures

@@ -1,0 +1,11 @@
+use Rattle.finder_spelling.proofs.Rows.{InRows, rows_begin, rows_size, rows_room, rows_few, rows_next, rows_end}
+use Prim.Native.Nat.{◌-◌}
+use borrow.Author.Rules.{rules}
+use native.Mathlib.Omega.{arith}
+use Rattle.finder_spelling.proofs.spell_pairs.Given as goal
+
+abbrev pub invariant-loop-p : goal.invariant-loop-p
+invariant-loop-p l = InRows l.unit l.x l.distances l.initial.text l.p l.text l.place l.count
+
+abbrev pub decreases-loop-p : goal.decreases-loop-p
+decreases-loop-p l = l.states - l.p

@@ -1,0 +1,11 @@
+use Rattle.finder_spelling.proofs.Rows.{InRow, row_start, row_room, row_next, row_end, row_size}
+use Prim.Native.Nat.{◌<◌, ◌-◌}
+use borrow.Author.Rules.{rules}
+use native.Mathlib.Omega.{arith}
+use Rattle.finder_spelling.proofs.spell_row.Given as goal
+
+abbrev pub invariant-loop-q : goal.invariant-loop-q
+invariant-loop-q l = InRow l.unit l.x l.distances l.p.0 l.initial.text l.at l.q l.text l.place × (l.p.0 < l.q)
+
+abbrev pub decreases-loop-q : goal.decreases-loop-q
+decreases-loop-q l = l.states - l.q

@@ -1,0 +1,10 @@
+use mathlib.Core.Path.{refl}
+use lib.Dec.{leb}
+use Rattle.importer_counts.proofs.OneMore.{all_none, all_one}
+use Rattle.importer_counts.proofs.allows.Goals as goal
+
+pub returns-then-said-eq0 : goal.returns-then-said-eq0
+returns-then-said-eq0 c = all_none _ _ c.if-said-eq0.true
+
+pub returns : goal.returns
+returns c = all_one (leb c.args.count) _ _ c.if-said-eq0.false refl

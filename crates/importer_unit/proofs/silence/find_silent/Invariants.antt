@@ -1,0 +1,11 @@
+use Prim.Native.Nat.{◌-◌, ◌≤◌}
+use native.Mathlib.Omega.{arith}
+use borrow.Author.Rules.{rules}
+use Rattle.importer_unit.proofs.Silences.{RowsFull, rows_start, rows_next, name_low, silent_none, silent_here}
+use Rattle.importer_unit.proofs.silence.find_silent.Given as goal
+
+abbrev pub invariant-loop-left : goal.invariant-loop-left
+invariant-loop-left l = (l.left ≤ l.states) × RowsFull l.nexts l.numbers l.inputs (l.states - l.left)
+
+abbrev pub decreases-loop-left : goal.decreases-loop-left
+decreases-loop-left l = l.left

@@ -1,0 +1,23 @@
+use Rattle.reader.proofs.Held.{words_inside}
+use Prim.Native.Nat.{◌-◌, ◌<◌}
+use native.Mathlib.Omega.{arith}
+use mathlib.Core.Path.{◌≡◌}
+use mathlib.Core.List.{List}
+use mathlib.Core.Bool.{not}
+use Rattle.rules.specs.Words.{same}
+use Rattle.rules.specs.Machines.{answer}
+use Rattle.rules.specs.Files.{SheetRecord}
+use Rattle.rules.specs.Operations.{recorded_for}
+use Rattle.theory.specs.Pairing.{NoneRepeated}
+use Rattle.reader.specs.Places.{word_place, machine_at}
+use Rattle.judge_records.specs.Filed.{Filed}
+use Rattle.judge_records.proofs.Standing.{WordsLeft, WordScan, words_begin, word_whole, words_next, word_scan_begin}
+use Rattle.judge_verdict.proofs.Deviating.{served_word, place_first, place_after, deviating_found, deviating_next, deviating_end}
+use borrow.Author.Rules.{rules}
+use Rattle.judge_verdict.proofs.find_deviating.Given as goal
+
+abbrev pub invariant-loop-i : goal.invariant-loop-i
+invariant-loop-i l = WordsLeft l.dossier l.x.tests l.x.inputs l.x.count l.i l.word × (l.word ≡ word_place l.dossier l.x.tests l.i) × ((rs : List SheetRecord) → Filed l.sheet l.x.inputs rs l.label l.first l.next l.value → NoneRepeated rs → WordScan (λ (i, t). not (same (answer (machine_at l.dossier l.x.table l.x.inputs l.x.states) t) (recorded_for rs t))) l.dossier l.x.tests l.x.count l.i l.word)
+
+abbrev pub decreases-loop-i : goal.decreases-loop-i
+decreases-loop-i l = l.count - l.i
