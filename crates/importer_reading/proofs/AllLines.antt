@@ -48,11 +48,11 @@ pub term_fields : {s : List ℕ} {says : Says} {a b c d : Part} → TermAs s say
 term_fields as_term =
     record {
       cube_in = as_term.cube_in;
-      is_cube = as_term.is_cube;
+      is_cube = as_term.is_a_cube;
       current = as_term.current;
       next = as_term.next;
       output_in = as_term.output_in;
-      is_output = as_term.is_output;
+      is_output = as_term.is_an_output;
     }
 
 pub said_so : {before : List Says} {names lengths nexts outputs ranks : List ℕ} {r : Step} {says s : Says} → says ≡ s → Stepped before s names lengths nexts outputs ranks r

@@ -1,7 +1,7 @@
 -- Laws of a line that says a term.
 use Prim.Native.Nat.{ℕ, zero, suc, ◌-◌, ◌≤◌}
 use native.Mathlib.Omega.{arith}
-use mathlib.Core.Path.{◌≡◌, refl, sym, ◌∙◌, subst}
+use mathlib.Core.Path.{◌≡◌, refl, sym, ap, ◌∙◌, subst}
 use mathlib.Core.Logic.{inl, inr}
 use mathlib.Core.List.Memᴰ
 use mathlib.Core.List.{List, [], ◌∷◌, ◌++◌}
@@ -136,7 +136,7 @@ module _ (s : List ℕ) (before : List Says) (x : Counts) (counts_at : CountsAt 
         few_is v asked =
             let room : leb many most_states ≡ true = le-leb many most_states (omega (arith, told.0.slots_in.few, told.3)) in
             let said : numbers_in (text ".s") before ≡ listed y.state_count = sym (same_number before (term (term_at s parts)) (text ".s") refl) ∙ fits.1.state_count in
-            rw (← so_many, room, said) (sym asked)
+            ap (λ (n : ℕ). all (leb n) (most_states ∷ numbers_in (text ".s") before)) (sym so_many) ∙ rw (room, said) (sym asked)
 
         module _ (v : Bool) (asked : v ≡ all (leb many) (listed y.state_count)) where
           pub too_many : not v ≡ true → NamedTermAs s before (term_at s parts) names lengths NotNamed

@@ -7,7 +7,7 @@ use Prim.Native.Nat.{◌-◌}
 use Rattle.importer_reading.proofs.lines.read_lines.Goals as goal
 
 pub loop-from-init : goal.loop-from-init
-loop-from-init c = let (short, ((room, room'), (no-nexts, no-outputs, no-ranks))) = c.requires in let (counts, no_names, none-ranked) = c.nothing_said-x.ensures in (reading_start _ _ _ _ _ _ _ room room' no-nexts no-outputs no-ranks counts no_names none-ranked, refl, refl, refl, refl, refl)
+loop-from-init c = let (room, room') = c.requires.names_len in let (no-nexts, no-outputs, no-ranks) = c.requires.nexts_value in let (counts, no_names, none-ranked) = c.nothing_said-x.ensures in (reading_start _ _ _ _ _ _ _ room room' no-nexts no-outputs no-ranks counts no_names none-ranked, refl, refl, refl, refl, refl)
 
 pub line_end-end-requires : goal.line_end-end-requires
 line_end-end-requires c = omega (arith, c.loop-from-test.true)

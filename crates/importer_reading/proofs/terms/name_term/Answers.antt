@@ -6,34 +6,34 @@ use Rattle.std.specs.Prelude.{not}
 use Rattle.importer_reading.proofs.terms.name_term.Goals as goal
 
 pub number_both-requires-clause-field_in : goal.number_both-requires-clause-field_in
-number_both-requires-clause-field_in c = let (f, v) = c.requires in (f.current.field_in, name_short f.current, f.next.field_in, name_short f.next)
+number_both-requires-clause-field_in c = let f = c.requires.term_fields in let v = c.requires.some_said in (f.current.field_in, name_short f.current, f.next.field_in, name_short f.next)
 
 pub number_both-requires-clause-some_names : goal.number_both-requires-clause-some_names
-number_both-requires-clause-some_names c = let (f, v) = c.requires in record { list = _; at = v.named; many = sym v.many }
+number_both-requires-clause-some_names c = let f = c.requires.term_fields in let v = c.requires.some_said in record { list = _; at = v.named; many = sym v.many }
 
 pub returns-then-not-allows-clause-named_term_as : goal.returns-then-not-allows-clause-named_term_as
-returns-then-not-allows-clause-named_term_as c = let (f, v) = c.requires in λ before nexts outputs ranks held. too_many _ before _ held.counted _ f _ (c.count_term.ensures before _ held.counted (field_long f.cube_in ∙ sym c.size.ensures) (field_long f.output_in ∙ sym c.size-2.ensures)) _ c.in-Goes.is _ _ _ (c.number_both.ensures _ held.named (sym held.many)) _ _ _ c.in-At.is _ c.allows.ensures (ap not c.if-not-allows.true)
+returns-then-not-allows-clause-named_term_as c = let f = c.requires.term_fields in let v = c.requires.some_said in λ before nexts outputs ranks held. too_many _ before _ held.counted _ f _ (c.count_term.ensures before _ held.counted (field_long f.cube_in ∙ sym c.size.ensures) (field_long f.output_in ∙ sym c.size-2.ensures)) _ c.in-Goes.is _ _ _ (c.number_both.ensures _ held.named (sym held.many)) _ _ _ c.in-At.is _ c.allows.ensures (ap not c.if-not-allows.true)
 
 pub returns-then-not-allows-clause-ready : goal.returns-then-not-allows-clause-ready
-returns-then-not-allows-clause-ready c = let (f, v) = c.requires in record { told = tt }
+returns-then-not-allows-clause-ready c = let f = c.requires.term_fields in let v = c.requires.some_said in record { told = tt }
 
 pub output_value-requires : goal.output_value-requires
-output_value-requires c = let (f, v) = c.requires in output_in _ v.before _ v.counted _ f _ (c.count_term.ensures v.before _ v.counted (field_long f.cube_in ∙ sym c.size.ensures) (field_long f.output_in ∙ sym c.size-2.ensures)) _ c.in-Goes.is _ _ _ (c.number_both.ensures _ v.named (sym v.many)) _ _ _ c.in-At.is _ c.allows.ensures (ap not c.if-not-allows.false)
+output_value-requires c = let f = c.requires.term_fields in let v = c.requires.some_said in output_in _ v.before _ v.counted _ f _ (c.count_term.ensures v.before _ v.counted (field_long f.cube_in ∙ sym c.size.ensures) (field_long f.output_in ∙ sym c.size-2.ensures)) _ c.in-Goes.is _ _ _ (c.number_both.ensures _ v.named (sym v.many)) _ _ _ c.in-At.is _ c.allows.ensures (ap not c.if-not-allows.false)
 
 pub returns-in-Bad-clause-named_term_as : goal.returns-in-Bad-clause-named_term_as
-returns-in-Bad-clause-named_term_as c = let (f, v) = c.requires in λ before nexts outputs ranks held. term_misfits _ before _ held.counted _ f _ (c.count_term.ensures before _ held.counted (field_long f.cube_in ∙ sym c.size.ensures) (field_long f.output_in ∙ sym c.size-2.ensures)) c.in-Bad.is _ _
+returns-in-Bad-clause-named_term_as c = let f = c.requires.term_fields in let v = c.requires.some_said in λ before nexts outputs ranks held. term_misfits _ before _ held.counted _ f _ (c.count_term.ensures before _ held.counted (field_long f.cube_in ∙ sym c.size.ensures) (field_long f.output_in ∙ sym c.size-2.ensures)) c.in-Bad.is _ _
 
 pub returns-in-Bad-clause-ready : goal.returns-in-Bad-clause-ready
-returns-in-Bad-clause-ready c = let (f, v) = c.requires in record { told = tt }
+returns-in-Bad-clause-ready c = let f = c.requires.term_fields in let v = c.requires.some_said in record { told = tt }
 
 pub returns-in-Full-clause-named_term_as : goal.returns-in-Full-clause-named_term_as
-returns-in-Full-clause-named_term_as c = let (f, v) = c.requires in λ before nexts outputs ranks held. no_room _ before _ held.counted _ f _ (c.count_term.ensures before _ held.counted (field_long f.cube_in ∙ sym c.size.ensures) (field_long f.output_in ∙ sym c.size-2.ensures)) _ c.in-Goes.is _ _ _ (c.number_both.ensures _ held.named (sym held.many)) c.in-Full.is
+returns-in-Full-clause-named_term_as c = let f = c.requires.term_fields in let v = c.requires.some_said in λ before nexts outputs ranks held. no_room _ before _ held.counted _ f _ (c.count_term.ensures before _ held.counted (field_long f.cube_in ∙ sym c.size.ensures) (field_long f.output_in ∙ sym c.size-2.ensures)) _ c.in-Goes.is _ _ _ (c.number_both.ensures _ held.named (sym held.many)) c.in-Full.is
 
 pub returns-in-Full-clause-ready : goal.returns-in-Full-clause-ready
-returns-in-Full-clause-ready c = let (f, v) = c.requires in record { told = tt }
+returns-in-Full-clause-ready c = let f = c.requires.term_fields in let v = c.requires.some_said in record { told = tt }
 
 pub returns-else-not-allows-clause-named_term_as : goal.returns-else-not-allows-clause-named_term_as
-returns-else-not-allows-clause-named_term_as c = let (f, v) = c.requires in λ before nexts outputs ranks held. term_named _ before _ held.counted _ f _ (c.count_term.ensures before _ held.counted (field_long f.cube_in ∙ sym c.size.ensures) (field_long f.output_in ∙ sym c.size-2.ensures)) _ c.in-Goes.is _ _ _ (c.number_both.ensures _ held.named (sym held.many)) _ _ _ c.in-At.is _ c.allows.ensures (ap not c.if-not-allows.false) _ c.output_value.ensures
+returns-else-not-allows-clause-named_term_as c = let f = c.requires.term_fields in let v = c.requires.some_said in λ before nexts outputs ranks held. term_named _ before _ held.counted _ f _ (c.count_term.ensures before _ held.counted (field_long f.cube_in ∙ sym c.size.ensures) (field_long f.output_in ∙ sym c.size-2.ensures)) _ c.in-Goes.is _ _ _ (c.number_both.ensures _ held.named (sym held.many)) _ _ _ c.in-At.is _ c.allows.ensures (ap not c.if-not-allows.false) _ c.output_value.ensures
 
 pub returns-else-not-allows-clause-ready : goal.returns-else-not-allows-clause-ready
-returns-else-not-allows-clause-ready c = let (f, v) = c.requires in term_ready _ v.before _ v.counted _ f _ (c.count_term.ensures v.before _ v.counted (field_long f.cube_in ∙ sym c.size.ensures) (field_long f.output_in ∙ sym c.size-2.ensures)) _ c.in-Goes.is _ _ _ (c.number_both.ensures _ v.named (sym v.many)) _ _ _ c.in-At.is _ c.allows.ensures (ap not c.if-not-allows.false) _
+returns-else-not-allows-clause-ready c = let f = c.requires.term_fields in let v = c.requires.some_said in term_ready _ v.before _ v.counted _ f _ (c.count_term.ensures v.before _ v.counted (field_long f.cube_in ∙ sym c.size.ensures) (field_long f.output_in ∙ sym c.size-2.ensures)) _ c.in-Goes.is _ _ _ (c.number_both.ensures _ v.named (sym v.many)) _ _ _ c.in-At.is _ c.allows.ensures (ap not c.if-not-allows.false) _
