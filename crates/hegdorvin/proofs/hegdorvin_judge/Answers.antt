@@ -1,0 +1,5 @@
+use Rattle.theory.specs.Bounds.{judge_fields_fit}
+use Rattle.hegdorvin.proofs.hegdorvin_judge.Goals as goal
+
+pub judged-requires : goal.judged-requires
+judged-requires c = judge_fields_fit _ _ c.judge.result c.judge.ensures
