@@ -1,25 +1,18 @@
 -- Laws of the line of a refusal: only 1 to 6 have a place.
 use Prim.Native.Nat.{ℕ}
-use mathlib.Core.Path.{◌≡◌, refl}
+use mathlib.Core.Path.{◌≡◌, refl, sym, ap, ◌∙◌, subst}
 use mathlib.Core.List.{List, [], ◌∷◌, ◌++◌}
-use types.Run.{OneOf, miss}
-use denote.Enum.Declared.{tag_of}
 use Rattle.rules.specs.declared.File.{File}
 use Rattle.rules.specs.declared.Fault.{Fault}
 use Rattle.rules.specs.declared.Refusal.{Refusal}
 use Rattle.rules.specs.declared.Refusal.TheVariants.{Malformed, NoEmptyWord, Unreached, NoSeparator, NotSeparated, Missing, Repeated, Foreign, Absent, OtherInputs, TooManyStates, NoRoom, NotReduced, BadLine, Contradiction, Incomplete}
 use Rattle.rules.specs.Answers.{number_of}
-use Rattle.rules.specs.Line.{text, decimal, letter, spot, refusal_line}
-use Rattle.rules.specs.contracts.Refusal.{the_type}
+use Rattle.rules.specs.Line.{text, decimal, letter, line, spot, refusal_line}
 use Rattle.line_writer.specs.Puts.{Puts, Closes}
 use Rattle.line_writer.proofs.Lines.{feed_closes, next_closes, first_closes}
 
--- all refusals but the first case of the enum
-abbrev others : List ℕ
-others = 1 ∷ 2 ∷ 3 ∷ 4 ∷ 5 ∷ 6 ∷ 7 ∷ 8 ∷ 9 ∷ 10 ∷ 11 ∷ 12 ∷ 13 ∷ 14 ∷ 15 ∷ []
-
-pub no_spot : (r : Refusal) → OneOf others (tag_of the_type r) → spot r ≡ []
-no_spot (Malformed fault f p) other = absurd (miss others _ tt other)
+pub no_spot : (r : Refusal) → ((fault : Fault) (f : File) (place : ℕ) → r ≡ Malformed fault f place → ⊥) → spot r ≡ []
+no_spot (Malformed fault f p) other = absurd (other fault f p refl)
 no_spot NoEmptyWord other = refl
 no_spot (Unreached f q) other = refl
 no_spot NoSeparator other = refl
@@ -40,7 +33,11 @@ no_spot (Incomplete q i) other = refl
 module _ (r : Refusal) (n : ℕ) (number : n ≡ number_of r) (out said numbered last : List ℕ) (p q a b : ℕ)
     (first : Puts out p (text "REFUSED") said q) (second : Puts said q (text " " ++ decimal n) numbered a) where
   pub refused_at : (fault : Fault) (f : File) (place : ℕ) → r ≡ Malformed fault f place → Closes numbered a (letter f ∷ decimal place ∷ []) last b → Puts out p (refusal_line r) last b
-  refused_at fault f place is rest = rw (← number, is) (first_closes first (next_closes second rest))
+  refused_at fault f place is rest = rw (is, ← number) (first_closes first (next_closes second rest))
 
   pub refused_only : spot r ≡ [] → Puts numbered a (text "\n") last b → Puts out p (refusal_line r) last b
-  refused_only none feed = rw (← number, none) (first_closes first (next_closes second (feed_closes feed)))
+  refused_only none feed =
+      let words : refusal_line r ≡ line (text "REFUSED" ∷ decimal n ∷ []) =
+      ap (λ (ws : List (List ℕ)). line (text "REFUSED" ∷ decimal (number_of r) ∷ ws)) none ∙ ap (λ (m : ℕ). line (text "REFUSED" ∷ decimal m ∷ [])) (sym number)
+      in
+      subst (λ (l : List ℕ). Puts out p l last b) (sym words) (first_closes first (next_closes second (feed_closes feed)))

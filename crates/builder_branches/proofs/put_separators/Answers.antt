@@ -15,7 +15,7 @@ pub loop-e-init : goal.loop-e-init
 loop-e-init c = (search rules, refl, refl, refl, λ k t h e. putting_start _ _ _ _ t _ _ _ _ _ h e)
 
 pub overflow_cast-places : goal.overflow_cast-places
-overflow_cast-places c = omega (arith, c.shared_slice_known-in-loop-e-1.given c.loop-e.e)
+overflow_cast-places c = omega (arith, c.type_inv.places c.loop-e.e)
 
 pub put_word-put-requires-clause-whole : goal.put_word-put-requires-clause-whole
 put_word-put-requires-clause-whole c = c.requires.separators.whole _ c.loop-e-test.true

@@ -4,7 +4,7 @@ use borrow.Author.Rules.{rules}
 use Rattle.builder.proofs.answer.build.Goals as goal
 
 pub build_sound-requires : goal.build_sound-requires
-build_sound-requires c = buildable _ _ c.read_sound.ensures _ c.in-Holds.is (λ i. omega (arith, c.shared_slice_known-1.given i))
+build_sound-requires c = buildable _ _ c.read_sound.ensures _ c.in-Holds.is (λ i. omega (arith, c.type_inv.dossier i))
 
 pub returns-in-Refused : goal.returns-in-Refused
 returns-in-Refused c = refused_promise _ _ c.read_sound.ensures _ c.in-Refused.is _

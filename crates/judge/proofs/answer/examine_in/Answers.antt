@@ -1,0 +1,9 @@
+use Rattle.judge.proofs.Examining.{examined_unpaired, matched}
+use borrow.Author.Rules.{rules}
+use Rattle.judge.proofs.answer.examine_in.Goals as goal
+
+pub examine_matched-requires : goal.examine_matched-requires
+examine_matched-requires c = matched _ _ _ _ c.requires.handed _ c.pair.ensures.value c.pair.ensures.filed c.in-Fine.is
+
+pub returns-in-Refused : goal.returns-in-Refused
+returns-in-Refused c = examined_unpaired _ _ _ _ c.requires.handed _ c.pair.ensures.value _ c.in-Refused.is

@@ -1,0 +1,15 @@
+use mathlib.Core.Path.{ap}
+use Rattle.rules.specs.Answers.{run_says}
+use Rattle.checker.proofs.Accepting.{accepted_at}
+use Rattle.runner.proofs.Running.{run_unchecked}
+use borrow.Author.Rules.{rules}
+use Rattle.runner.proofs.trial.run.Goals as goal
+
+pub try_unit-requires : goal.try_unit-requires
+try_unit-requires c = accepted_at _ _ c.accept.ensures _ c.in-Holds.is
+
+pub returns-in-Holds : goal.returns-in-Holds
+returns-in-Holds c = ap run_says c.try_unit.ensures
+
+pub returns-in-Refused : goal.returns-in-Refused
+returns-in-Refused c = run_unchecked _ _ c.accept.ensures _ _ c.in-Refused.is
