@@ -356,7 +356,7 @@ def turn(path, parts_made, crate, rel, contracts):
     signature, unfolding = None, None
     for item in items:
         if item.startswith("use "):
-            if re.search(r"\.(Tie|Statement|Lts|Reads|Kinds|Goals|Given)(\.|\b)|borrow\.Fn\.|proofs\.\+\S+\.\{statement\}", item) and ("proofs" in item or "borrow.Fn" in item):
+            if re.search(r"\.(Tie|Statement|Lts|Reads|Kinds)(\.|\b)|borrow\.Fn\.|proofs\.\+\S+\.\{statement\}", item) and ("proofs" in item or "borrow.Fn" in item):
                 continue
             uses.append(item)
             continue

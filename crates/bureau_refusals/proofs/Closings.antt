@@ -2,7 +2,7 @@
 use Prim.Native.Nat.{ℕ, zero, suc, ◌+◌, ◌-◌, ◌≤◌, ◌<◌}
 use native.Mathlib.Omega.{arith}
 use native.Mathlib.Nat.{sub-zero}
-use mathlib.Core.Path.{◌≡◌, refl, sym, ap, ◌∙◌}
+use mathlib.Core.Path.{◌≡◌, refl, sym, ap, ◌∙◌, subst}
 use mathlib.Core.List.{List, [], ◌∷◌, ◌++◌}
 use lib.ListN.{length, take}
 use lib.Seq.{length-take-le}
@@ -11,7 +11,7 @@ use Rattle.rules.specs.declared.Refusal.{Refusal}
 use Rattle.rules.specs.declared.Refusal.TheVariants.{Missing}
 use Rattle.rules.specs.Words.{Word, Valid}
 use Rattle.rules.specs.Answers.{number_of, refusing}
-use Rattle.rules.specs.Line.{text, decimal, hex}
+use Rattle.rules.specs.Line.{text, decimal, hex, line}
 use Rattle.theory.specs.Bounds.{Fits}
 use Rattle.line_writer.specs.Puts.{Puts, Closes}
 use Rattle.line_writer.proofs.Lines.{next_closes, first_closes}
@@ -69,4 +69,5 @@ middle_valid r c y s fits is =
 pub refused_closes : {out said numbered last : List ℕ} {p q a b : ℕ} (r : Refusal) (n : ℕ) → n ≡ number_of r
     → Puts out p (text "REFUSED") said q → Puts said q (text " " ++ decimal n) numbered a → Closes numbered a (value_words r) last b → Puts out p (refused_line r) last b
 unfolding refused_line
-refused_closes r n number first second values = rw (← number) (first_closes first (next_closes second values))
+refused_closes {out} {said} {numbered} {last} {p} {q} {a} {b} r n number first second values =
+    subst (λ (m : ℕ). Puts out p (line (text "REFUSED" ∷ decimal m ∷ value_words r)) last b) number (first_closes first (next_closes second values))

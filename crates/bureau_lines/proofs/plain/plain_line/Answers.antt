@@ -1,0 +1,7 @@
+use Rattle.line_writer.proofs.Lines.{first_closes, feed_closes}
+use Rattle.line.proofs.Given.{line_given}
+use borrow.Author.Rules.{rules}
+use Rattle.bureau_lines.proofs.plain.plain_line.Goals as goal
+
+pub returns : goal.returns
+returns c = line_given _ _ _ _ c.no_text-bytes.ensures (first_closes c.put_text-said.ensures (feed_closes c.put_line_feed-length.ensures))

@@ -1,0 +1,6 @@
+use Rattle.bureau_refusals.proofs.Closings.{refused_closes}
+use borrow.Author.Rules.{rules}
+use Rattle.bureau_refusals.proofs.write_refused.Goals as goal
+
+pub returns : goal.returns
+returns c = refused_closes _ _ c.said-number.ensures.0 c.put_text-refused.ensures c.add_decimal-numbered.ensures.puts c.put_values.ensures

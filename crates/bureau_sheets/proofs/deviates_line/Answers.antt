@@ -1,0 +1,6 @@
+use Rattle.line.proofs.Given.{line_given}
+use borrow.Author.Rules.{rules}
+use Rattle.bureau_sheets.proofs.deviates_line.Goals as goal
+
+pub returns : goal.returns
+returns c = line_given _ _ _ _ c.no_text-bytes.ensures c.write_deviates-length.ensures
