@@ -162,12 +162,14 @@ def read_all(letters, names):
 # ---- the proved program
 
 TARGET = ROOT / "target"
+# The program where rt leaves it, and the copy that is run: rt puts aside what it made while it proves all again.
+MADE = ROOT / "crates" / "bureau" / "out" / "bureau"
 PROGRAM = TARGET / "bin" / "bureau"
-# What the program was built from, its digest, and the folder of the toolchain, which has what it runs under.
+# The digests of what the program was built from and of the program.
 RECORD = TARGET / "bin" / "bureau.built"
 LOCK = TARGET / "bin" / "bureau.lock"
-# rt builds the program again where this is missing, or is of other sources.
-STAMP = TARGET / "stamp" / "bureau"
+# What rt said at the last build.
+LOG = TARGET / "bureau.log"
 # The program's arrays lie on the stack, less than 2 MiB in all (docs/BENCH.md).
 ENOUGH_STACK = 4096 * 1024
 
@@ -189,12 +191,12 @@ def crates():
 
 
 def source_files():
-    """What the program is built from. The edits that must fail are no part of it, nor are links, which rt passes over."""
+    """What the program is built from. The edits that must fail are no part of it, nor is what rt makes of it."""
     yield ROOT / "toolchain.txt"
     yield ROOT / "crates.txt"
     for name in sorted(crates()):
         for folder, folders, files in os.walk(ROOT / "crates" / name):
-            folders[:] = sorted(set(folders) - {"must-fail"})
+            folders[:] = sorted(set(folders) - {"must-fail", "out"})
             for file in sorted(files):
                 if stat.S_ISREG(os.lstat(os.path.join(folder, file)).st_mode):
                     yield Path(folder, file)
@@ -216,25 +218,22 @@ def named_toolchain():
     return (ROOT / "toolchain.txt").read_text().strip()
 
 
-def built_with():
-    """The folder of the toolchain that the program was built with; None where the program has to be built."""
+def is_built():
+    """Whether the program is there, as it was built from the sources as they are."""
     try:
-        sources, program, kit = os.fsdecode(RECORD.read_bytes()).splitlines()
-        is_named = Path(kit, "KIT-ID").read_text().strip() == named_toolchain()
-        is_fresh = is_named and (sources, program) == (sources_digest(), file_digest(PROGRAM))
+        return RECORD.read_text().splitlines() == [sources_digest(), file_digest(PROGRAM)]
     except (OSError, ValueError):
-        return None
-    return kit if is_fresh else None
+        return False
 
 
 @functools.lru_cache(maxsize=None)
 def bureau():
-    """Sees that the program is built from the sources as they are. Answers the folder of the toolchain that it runs under."""
-    kit = built_with()
-    if kit is None:
+    """Sees that the program is built from the sources as they are, and answers its name."""
+    if not is_built():
         with build_lock() as lock:
-            kit = built_with() or build(lock)  # another use may have built it meanwhile
-    return kit
+            if not is_built():  # another use may have built it meanwhile
+                build(lock)
+    return PROGRAM
 
 
 @contextmanager
@@ -255,48 +254,42 @@ def build_lock():
 
 
 def build(lock):
-    kit = find_toolchain()
+    see_toolchain()
     sources = sources_digest()
-    if not is_stamped():
-        with suppress(FileNotFoundError):
-            STAMP.unlink()
-    complain("building the proved program, which takes some minutes where nothing is proved yet")
+    complain("building the proved program, which takes long where nothing is proved yet")
     prove(lock)
-    replace_file(RECORD, os.fsencode(f"{sources}\n{file_digest(PROGRAM)}\n{kit}\n"))
-    return kit
+    keep(sources)
 
 
-def find_toolchain():
-    """The folder of the installed toolchain, which has to be the one that toolchain.txt names."""
+def keep(sources):
+    """Copies the program that rt left, and records it as built of these sources."""
+    replace_file(PROGRAM, MADE.read_bytes())
+    PROGRAM.chmod(0o777 & ~current_mask())
+    replace_file(RECORD, f"{sources}\n{file_digest(PROGRAM)}\n".encode())
+
+
+def take():
+    """Takes the program that `rt ci` has just proved and built of the sources as they are: `./test` asks for that."""
+    with build_lock():
+        if not is_built():
+            keep(sources_digest())
+
+
+def see_toolchain():
+    """Sees that the toolchain that toolchain.txt names is installed."""
     named = named_toolchain()
     if shutil.which("rt") is None:
         raise Trouble(f"the proved program has to be built, and the toolchain is not installed: {named}, with its command rt")
-    installed = ask_rt("version")
+    installed = os.fsdecode(subprocess.run(["rt", "version"], stdin=subprocess.DEVNULL, stdout=subprocess.PIPE).stdout).strip()
     if installed != named:
         raise Trouble(f"the proved program has to be built with the toolchain {named}, and {installed} is installed")
-    return os.path.dirname(os.path.dirname(ask_rt("doc")))
-
-
-def ask_rt(word):
-    return os.fsdecode(subprocess.run(["rt", word], stdin=subprocess.DEVNULL, stdout=subprocess.PIPE).stdout).strip()
-
-
-def is_stamped():
-    """Whether rt finished the program as it is. rt looks at the sources only, so a program that was changed since has to lose
-    its stamp. The time of change is asked, which no copying sets back; in doubt the program is built again."""
-    try:
-        return PROGRAM.stat().st_ctime_ns < STAMP.stat().st_ctime_ns
-    except FileNotFoundError:
-        return False
-
-
 def prove(lock):
-    """Runs rt. All that it starts is in a group of its own, so that it can be stopped as a whole, and holds the lock."""
+    """Runs rt, which proves and builds the program and then runs it once. All that rt starts is in a group of its own, so that it can
+    be stopped as a whole, and holds the lock."""
     with tempfile.TemporaryDirectory(prefix="hegdorvin-") as folder:
-        os.chmod(folder, 0o711)  # where rt is root, it runs the program as nobody
         building = subprocess.Popen(
-            ["rt", "check", "bureau"],
-            cwd=ROOT,
+            ["rt", "run", "--", "check", ROOT / "examples" / "golden"],
+            cwd=ROOT / "crates" / "bureau",
             env={**os.environ, "TMPDIR": folder},
             stdin=subprocess.DEVNULL,
             stdout=subprocess.PIPE,
@@ -312,7 +305,7 @@ def prove(lock):
         finally:
             stop(building)
     if status != 0:
-        raise Trouble(f"the proved program could not be built ({TARGET / 'log'} has more): {last}")
+        raise Trouble(f"the proved program could not be built ({LOG} has more): {last}")
 
 
 def stop(building):
@@ -324,21 +317,22 @@ def stop(building):
 
 
 def show_progress(output):
-    """Says which crate of how many was proved, and answers the last line."""
-    names, done, last = crates(), 0, ""
-    for line in output:
-        last = line.decode(errors="replace").strip() or last
-        proved = re.fullmatch(r"rt: (\w+) proved (.*)", last)
-        if proved and proved[1] in names:
-            done += 1
-            if "unchanged" not in proved[2]:
-                complain(f"crate {done} of {len(names)}, {proved[1]}, is proved {proved[2]}")
+    """Says which crate is being proved, keeps all that rt says, and answers the last line."""
+    names, begun, last = crates(), set(), ""
+    with open(LOG, "wb") as log:
+        for line in output:
+            log.write(line)
+            last = line.decode(errors="replace").strip() or last
+            proving = re.fullmatch(r"rt: chose --jobs \d+ for (\w+)", last)
+            if proving and proving[1] in names - begun:
+                begun.add(proving[1])
+                complain(f"proving {proving[1]}, crate {len(begun)} of at most {len(names)}")
     return last
 
 
 def ask(operation, given, bound=None, has_output=False):
     """The line of an operation on files, with a bound if it takes one, and the bytes of its output, if it is to have one."""
-    kit = bureau()
+    program = bureau()
     with tempfile.TemporaryDirectory(prefix="hegdorvin-") as folder:
         names = []
         for file in given:
@@ -349,9 +343,7 @@ def ask(operation, given, bound=None, has_output=False):
             names.append(str(bound))
         if has_output:
             names.append(os.path.join(folder, "output"))
-        asked = [ROOT / "tests" / "native", "run", PROGRAM, operation, *names]
-        # tests/native looks for the toolchain there first, and needs no rt then
-        ran = subprocess.run(asked, env={**os.environ, "RATTLE_HOME": kit}, stdin=subprocess.DEVNULL, capture_output=True)
+        ran = subprocess.run([program, operation, *names], stdin=subprocess.DEVNULL, capture_output=True)
         line = ran.stdout.decode("ascii", errors="replace")
         words = line.split()
         if ran.returncode != 0 or not words or words[0] not in STATUS or not line.endswith("\n"):

@@ -9,7 +9,7 @@ use lib.ListN.{length}
 use Rattle.rules.specs.Lists.{◌∈◌}
 use Rattle.rules.specs.Sizes.{most_states}
 use Rattle.rules.specs.Line.{text}
-use Rattle.rules.specs.Kiss2.{Field, Says, number, reset, term, end, reset_of, term_of, resets_in, terms_in, names_in, place_in, may_follow}
+use Rattle.rules.specs.Kiss2.{Field, Says, number, reset, end, reset_of, term_of, resets_in, terms_in, names_in, place_in, may_follow}
 use Rattle.theory.specs.Kiss2Lines.{may_follow_lem, with_name}
 use Rattle.importer_counts.specs.declared.Counts.{Counts}
 use Rattle.importer_counts.specs.declared.Counting.{Counting}

@@ -9,7 +9,7 @@ use mathlib.Core.Bool.{Bool, true, false}
 use borrow.Author.Tests.{lt-leb, le-leb}
 use Rattle.rules.specs.Sizes.{counts}
 use Rattle.rules.specs.Words.{same}
-use Rattle.rules.specs.Kiss2.{Field, Says, number, is_comment, is_number, is_name, is_cube, is_output, value, most_of, directive, fields_say, line_says}
+use Rattle.rules.specs.Kiss2.{Field, Says, is_comment, is_number, is_name, is_cube, is_output, value, most_of, directive, fields_say, line_says}
 use Rattle.importer_lines.specs.declared.Part.{Part}
 use Rattle.importer_lines.specs.declared.Fields.{Fields}
 use Rattle.importer_lines.specs.Parts.{part_at, bytes_at, FieldIn}

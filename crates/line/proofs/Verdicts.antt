@@ -11,7 +11,7 @@ use Rattle.rules.specs.declared.Ran.TheVariants.{Passes, Fails, Refused as RunRe
 use Rattle.rules.specs.Words.{Word}
 use Rattle.rules.specs.Machines.{Machine, answer, answer_from}
 use Rattle.rules.specs.Files.{DossierData, UnitData, golden, unit}
-use Rattle.rules.specs.Operations.{fine, read_unit, check, run, run_answer}
+use Rattle.rules.specs.Operations.{fine, read_unit, check, run_answer}
 use Rattle.rules.specs.Line.{refusal_line, run_line}
 use Rattle.theory.specs.Answers.{run_answer_lem}
 use Rattle.theory.specs.Check.{check_accepts}

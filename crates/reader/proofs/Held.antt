@@ -16,7 +16,7 @@ use Rattle.rules.specs.Sizes.{most_inputs, most_states, most_set_word, most_test
 use Rattle.rules.specs.Words.{Word}
 use Rattle.rules.specs.Machines.{Table}
 use Rattle.rules.specs.Files.{DossierData, UnitData, SheetRecord, count_bytes, entry_bytes, word_bytes, table_bytes, words_bytes, front_bytes}
-use Rattle.rules.specs.Reading.{Got, got, faulty, Reader, judged, count, byte, many, words, table, sheet_record, ending, dossier, unit_table, sheet}
+use Rattle.rules.specs.Reading.{Got, got, faulty, Reader, judged, count, many, words, table, sheet_record, ending, dossier, unit_table, sheet}
 use Rattle.rules.specs.Operations.{Outcome, fine, refuse, opened, read_file, read_dossier, read_unit, read_sheet}
 use Rattle.theory.specs.Readers.{reads_count, reads_many}
 use Rattle.theory.specs.Sections.{reads_judged-byte, reads_judged-count, reads_words, reads_table, reads_record}

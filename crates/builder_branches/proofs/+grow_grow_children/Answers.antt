@@ -1,13 +1,9 @@
 use native.Mathlib.Omega.{arith}
-use Prim.Native.Nat.{suc, ◌+◌, ◌-◌, ◌≤◌}
-use mathlib.Core.Path.{◌≡◌, refl, sym, ◌∙◌}
+use Prim.Native.Nat.{◌-◌}
+use mathlib.Core.Path.{refl, sym, ◌∙◌}
 use borrow.Author.Rules.{rules}
-use lib.ListN.{length, length-set}
-use Rattle.trie.specs.Model.{Trie, size}
-use Rattle.trie.specs.Holds.{Holds}
-use Rattle.builder_branches.specs.Growing.{Separator, Done}
-use Rattle.builder_branches.proofs.Branching.{grew_known, put_full, put_ready, grow_full, grow_end, Turning, turning_start, turning_none, turning_counted, turning_end, step_full, step_ready, child_full, child_next}
-use Prim.Native.Nat.{ℕ, ◌<◌}
+use lib.ListN.{length-set}
+use Rattle.builder_branches.proofs.Branching.{grew_known, put_full, put_ready, grow_full, grow_end, turning_start, turning_none, turning_counted, turning_end, step_full, step_ready, child_full, child_next}
 use Rattle.builder_branches.proofs.+grow_grow_children.Goals as goal
 
 -- what the callees ask and tell
@@ -128,13 +124,13 @@ grow_children-overflow_add-a t c = omega (arith, c.loop-a-test.true, c.ranges)
 
 pub grow_children-loop-a-preserved : goal.grow_children-loop-a-preserved
 grow_children-loop-a-preserved t c = (
-      omega (arith, c.loop-a-test.true),
-      c.grow-grown.auto.label ∙ c.step-stepped.auto.label ∙ c.loop-a.invariant.1,
-      c.grow-grown.auto.first ∙ c.step-stepped.auto.first ∙ c.loop-a.invariant.2,
-      c.grow-grown.auto.next ∙ c.step-stepped.auto.next ∙ c.loop-a.invariant.3,
-      c.grow-grown.auto.done ∙ c.loop-a.invariant.4,
-      λ x h e d. child_next _ _ x _ _ _ _ _ _ _ _ (c.loop-a.invariant.5 x h e d) (omega (arith, c.requires.node_lt_nodes.0)) (omega (arith, c.loop-a-test.true)) (omega (arith, c.if-left-eq0.false)) _ (record { number = 0; below = c.requires.separators.one; stands = refl }) _ _ _ _ (λ t' h' e'. rw c.numbered.ensures at (c.step-stepped.ensures t' h' e')) _ _ c.in-To.is _ _ _ _ _ c.grow-grown.ensures _ c.in-Nodes.is,
-    )
+  omega (arith, c.loop-a-test.true),
+  c.grow-grown.auto.label ∙ c.step-stepped.auto.label ∙ c.loop-a.invariant.1,
+  c.grow-grown.auto.first ∙ c.step-stepped.auto.first ∙ c.loop-a.invariant.2,
+  c.grow-grown.auto.next ∙ c.step-stepped.auto.next ∙ c.loop-a.invariant.3,
+  c.grow-grown.auto.done ∙ c.loop-a.invariant.4,
+  λ x h e d. child_next _ _ x _ _ _ _ _ _ _ _ (c.loop-a.invariant.5 x h e d) (omega (arith, c.requires.node_lt_nodes.0)) (omega (arith, c.loop-a-test.true)) (omega (arith, c.if-left-eq0.false)) _ (record { number = 0; below = c.requires.separators.one; stands = refl }) _ _ _ _ (λ t' h' e'. rw c.numbered.ensures at (c.step-stepped.ensures t' h' e')) _ _ c.in-To.is _ _ _ _ _ c.grow-grown.ensures _ c.in-Nodes.is,
+)
 
 pub grow_children-shape_of-label : goal.grow_children-shape_of-label
 grow_children-shape_of-label t c = c.loop-a.invariant.1

@@ -1,13 +1,10 @@
-use native.Mathlib.Omega.{arith}
 use Prim.Native.Nat.{suc, ◌+◌, ◌-◌, ◌≤◌}
-use mathlib.Core.Path.{◌≡◌, refl, sym, ◌∙◌}
-use borrow.Author.Rules.{rules}
-use lib.ListN.{length, length-set}
+use mathlib.Core.Path.{◌≡◌}
+use lib.ListN.{length}
 use Rattle.trie.specs.Model.{Trie, size}
 use Rattle.trie.specs.Holds.{Holds}
 use Rattle.builder_branches.specs.Growing.{Separator, Done}
-use Rattle.builder_branches.proofs.Branching.{grew_known, put_full, put_ready, grow_full, grow_end, Turning, turning_start, turning_none, turning_counted, turning_end, step_full, step_ready, child_full, child_next}
-use Prim.Native.Nat.{ℕ, ◌<◌}
+use Rattle.builder_branches.proofs.Branching.{Turning}
 use Rattle.builder_branches.proofs.+grow_grow_children.Given as goal
 
 abbrev pub decreases-grow : goal.decreases-grow

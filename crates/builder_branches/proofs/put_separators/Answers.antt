@@ -1,11 +1,8 @@
 use native.Mathlib.Omega.{arith}
-use Prim.Native.Nat.{ℕ, ◌-◌, ◌≤◌}
-use mathlib.Core.Path.{◌≡◌, refl, ◌∙◌}
+use Prim.Native.Nat.{◌-◌}
+use mathlib.Core.Path.{refl, ◌∙◌}
 use borrow.Author.Rules.{rules}
-use lib.ListN.{length}
-use Rattle.trie.specs.Model.{Trie, size}
-use Rattle.trie.specs.Holds.{Holds}
-use Rattle.builder_branches.proofs.Branching.{Putting, putting_start, putting_counted, putting_next, putting_full, putting_end, grew_known}
+use Rattle.builder_branches.proofs.Branching.{putting_start, putting_counted, putting_next, putting_full, putting_end, grew_known}
 use Rattle.builder_branches.proofs.put_separators.Goals as goal
 
 pub returns-then-done-node-ne0 : goal.returns-then-done-node-ne0

@@ -1,11 +1,9 @@
-use native.Mathlib.Omega.{arith}
 use Prim.Native.Nat.{ℕ, ◌-◌, ◌≤◌}
-use mathlib.Core.Path.{◌≡◌, refl, ◌∙◌}
-use borrow.Author.Rules.{rules}
+use mathlib.Core.Path.{◌≡◌}
 use lib.ListN.{length}
 use Rattle.trie.specs.Model.{Trie, size}
 use Rattle.trie.specs.Holds.{Holds}
-use Rattle.builder_branches.proofs.Branching.{Putting, putting_start, putting_counted, putting_next, putting_full, putting_end, grew_known}
+use Rattle.builder_branches.proofs.Branching.{Putting}
 use Rattle.builder_branches.proofs.put_separators.Given as goal
 
 abbrev pub invariant-loop-e : goal.invariant-loop-e

@@ -1,7 +1,6 @@
 use native.Mathlib.Omega.{arith}
 use Rattle.builder_copyist.proofs.Fitted.{at_root, fits_counted, measured_over, fitting}
 use Rattle.builder_copyist.proofs.Promised.{over_promise, no_room_promise, written_promise}
-use borrow.Author.Rules.{rules}
 use Rattle.builder_copyist.proofs.build_planted.Goals as goal
 
 pub measure-requires : goal.measure-requires

@@ -3,7 +3,6 @@ use Rattle.bureau_lines.specs.Lines.{built_line, built_length}
 use Rattle.rules.specs.Answers.{build_says}
 use Rattle.theory.specs.Answers.{build_answer_lem}
 use Rattle.theory.specs.Bounds.{build_fits}
-use borrow.Author.Rules.{rules}
 use Rattle.bureau_lines.proofs.build_line.Goals as goal
 
 pub refused_line-requires : goal.refused_line-requires

@@ -3,7 +3,6 @@ use Rattle.bureau_lines.specs.Lines.{checked_line}
 use Rattle.rules.specs.Answers.{check_says}
 use Rattle.theory.specs.Answers.{check_answer_lem}
 use Rattle.theory.specs.Bounds.{check_fits}
-use borrow.Author.Rules.{rules}
 use Rattle.bureau_lines.proofs.check_line.Goals as goal
 
 pub refused_line-requires : goal.refused_line-requires

@@ -3,7 +3,6 @@ use Rattle.bureau_lines.specs.Lines.{costed_line}
 use Rattle.rules.specs.Answers.{cost_says}
 use Rattle.theory.specs.Answers.{cost_answer_lem}
 use Rattle.theory.specs.Bounds.{cost_fits}
-use borrow.Author.Rules.{rules}
 use Rattle.bureau_lines.proofs.cost_line.Goals as goal
 
 pub refused_line-requires : goal.refused_line-requires

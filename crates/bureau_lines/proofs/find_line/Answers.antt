@@ -3,7 +3,6 @@ use Rattle.bureau_lines.specs.Lines.{found_line, found_length}
 use Rattle.rules.specs.Answers.{find_says}
 use Rattle.theory.specs.Answers.{find_answer_lem}
 use Rattle.theory.specs.Bounds.{find_fits}
-use borrow.Author.Rules.{rules}
 use Rattle.bureau_lines.proofs.find_line.Goals as goal
 
 pub refused_line-requires : goal.refused_line-requires

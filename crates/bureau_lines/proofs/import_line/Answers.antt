@@ -3,7 +3,6 @@ use Rattle.bureau_lines.specs.Lines.{imported_line, imported_length}
 use Rattle.rules.specs.Answers.{import_says}
 use Rattle.theory.specs.Answers.{import_answer}
 use Rattle.theory.specs.Bounds.{import_fits}
-use borrow.Author.Rules.{rules}
 use Rattle.bureau_lines.proofs.import_line.Goals as goal
 
 pub refused_line-requires : goal.refused_line-requires

@@ -2,7 +2,6 @@ use Rattle.bureau_lines.proofs.Told.{fits_told, passes_told, fails_told, refused
 use Rattle.rules.specs.Answers.{run_says}
 use Rattle.theory.specs.Answers.{run_answer_lem}
 use Rattle.theory.specs.Bounds.{run_fits}
-use borrow.Author.Rules.{rules}
 use Rattle.bureau_lines.proofs.trial_line.Goals as goal
 
 pub refused_line-requires : goal.refused_line-requires

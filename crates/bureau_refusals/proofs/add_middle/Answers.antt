@@ -1,6 +1,5 @@
 use Rattle.bureau_refusals.proofs.Closings.{part_middle, whole_middle, part_valid, part_short, whole_valid, five_long}
 use native.Mathlib.Omega.{arith}
-use borrow.Author.Rules.{rules}
 use Rattle.bureau_refusals.proofs.add_middle.Goals as goal
 
 pub add_word-requires-clause-word_in_bounds : goal.add_word-requires-clause-word_in_bounds

@@ -1,6 +1,5 @@
 use Rattle.bureau_refusals.proofs.Closings.{spelled_none, spelled_some}
 use native.Mathlib.Omega.{arith}
-use borrow.Author.Rules.{rules}
 use Rattle.bureau_refusals.proofs.add_word.Goals as goal
 
 pub returns-then-word-eq0-clause-puts : goal.returns-then-word-eq0-clause-puts

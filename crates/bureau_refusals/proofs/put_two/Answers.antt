@@ -1,5 +1,4 @@
 use Rattle.line_writer.proofs.Lines.{next_closes}
-use borrow.Author.Rules.{rules}
 use Rattle.bureau_refusals.proofs.put_two.Goals as goal
 
 pub returns : goal.returns

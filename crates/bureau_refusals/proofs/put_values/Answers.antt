@@ -1,6 +1,5 @@
 use Rattle.line_writer.proofs.Lines.{feed_closes}
 use Rattle.bureau_refusals.proofs.Closings.{middle_valid}
-use borrow.Author.Rules.{rules}
 use Rattle.bureau_refusals.proofs.put_values.Goals as goal
 
 pub put_missing-requires-clause-valid : goal.put_missing-requires-clause-valid

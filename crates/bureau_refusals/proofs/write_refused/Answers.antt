@@ -1,5 +1,4 @@
 use Rattle.bureau_refusals.proofs.Closings.{refused_closes}
-use borrow.Author.Rules.{rules}
 use Rattle.bureau_refusals.proofs.write_refused.Goals as goal
 
 pub returns : goal.returns

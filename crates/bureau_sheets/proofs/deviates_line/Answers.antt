@@ -1,5 +1,4 @@
 use Rattle.line.proofs.Given.{line_given}
-use borrow.Author.Rules.{rules}
 use Rattle.bureau_sheets.proofs.deviates_line.Goals as goal
 
 pub returns : goal.returns

@@ -1,5 +1,4 @@
 use Rattle.bureau_sheets.proofs.Deviating.{deviating_number, deviating_part_lem, deviating_step, deviating_filed, recorded_step, deviating_spelled, deviating_says}
-use borrow.Author.Rules.{rules}
 use Rattle.bureau_sheets.proofs.deviating_line.Goals as goal
 
 pub word_place-word-requires-clause-words_at : goal.word_place-word-requires-clause-words_at

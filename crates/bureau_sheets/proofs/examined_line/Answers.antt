@@ -1,6 +1,5 @@
 use Rattle.bureau_sheets.proofs.Deviating.{agrees_told, refused_told, refused_fits, deviating_at}
 use mathlib.Core.Path.{◌∙◌, sym}
-use borrow.Author.Rules.{rules}
 use Rattle.bureau_sheets.proofs.examined_line.Goals as goal
 
 pub deviating_line-requires : goal.deviating_line-requires

@@ -1,6 +1,5 @@
 use Rattle.bureau_sheets.proofs.Deviating.{refused_told, refused_fits}
 use Rattle.judge.proofs.Examining.{handed, examined_unread, examined_unchecked}
-use borrow.Author.Rules.{rules}
 use Rattle.bureau_sheets.proofs.judge_line.Goals as goal
 
 pub examined_line-requires : goal.examined_line-requires

@@ -1,5 +1,4 @@
 use Rattle.line_writer.proofs.Lines.{first_closes, next_closes}
-use borrow.Author.Rules.{rules}
 use Rattle.bureau_sheets.proofs.write_deviates.Goals as goal
 
 pub returns : goal.returns

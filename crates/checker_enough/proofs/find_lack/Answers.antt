@@ -1,6 +1,4 @@
 use mathlib.Core.Path.{sym}
-use borrow.Author.Rules.{rules}
-use borrow.Author.Rules.{rules}
 use Rattle.checker_enough.proofs.find_lack.Goals as goal
 
 pub search_in-requires-clause-begun : goal.search_in-requires-clause-begun

@@ -1,7 +1,5 @@
-use borrow.Author.Rules.{rules}
 use Rattle.soundness.proofs.Sized.{few_inputs, bound_near}
 use Rattle.checker_enough.proofs.Lacking.{none_tested, begun, none_lacking, some_lacking, lacking_inside}
-use borrow.Author.Rules.{rules}
 use Rattle.checker_enough.proofs.find_lacking.Goals as goal
 
 pub returns-then-x-eq0 : goal.returns-then-x-eq0

@@ -2,8 +2,6 @@ use native.Mathlib.Omega.{arith}
 use mathlib.Core.Path.{sym, ◌∙◌}
 use Rattle.trie_filing.proofs.Filling.{words_room}
 use Rattle.trie_filing.proofs.Once.{firsts_few}
-use borrow.Author.Rules.{rules}
-use borrow.Author.Rules.{rules}
 use Rattle.checker_enough.proofs.search_in.Goals as goal
 
 pub put_words-requires-clause-words_at : goal.put_words-requires-clause-words_at

@@ -1,10 +1,8 @@
 use Prim.Native.Nat.{◌-◌}
-use native.Mathlib.Omega.{arith}
-use mathlib.Core.Path.{◌≡◌, refl, ◌∙◌}
+use mathlib.Core.Path.{◌≡◌}
 use lib.ListN.{length}
-use borrow.Author.Rules.{rules}
 use Rattle.checker_search.specs.declared.Lack.TheVariants.{Nowhere}
-use Rattle.checker_search.proofs.Missing.{Covering, Going, Trying, root_at, cover_start, cover_none, cover_whole, cover_off, cover_known, cover_done, middle_start, middle_off, middle_known, middle_done, keeping, few_firsts, separator_start, separator_next, separator_lacks, place_whole, node_there}
+use Rattle.checker_search.proofs.Missing.{Covering, Going, Trying}
 use Rattle.checker_search.proofs.find_missing.Given as goal
 
 abbrev pub invariant-separator : goal.invariant-separator

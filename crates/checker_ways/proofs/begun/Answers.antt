@@ -1,8 +1,6 @@
 use Prim.Native.Nat.{◌-◌}
-use borrow.Author.Rules.{rules}
 use Rattle.checker_ways.proofs.Ways.{tests_at_lem, tests_off}
 use Rattle.trie.specs.Model.{holding}
-use borrow.Author.Rules.{rules}
 use Rattle.checker_ways.proofs.begun.Goals as goal
 
 pub returns-in-At : goal.returns-in-At

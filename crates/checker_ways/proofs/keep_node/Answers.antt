@@ -1,6 +1,5 @@
 use mathlib.Core.Path.{sym}
 use lib.Seq.{set_out}
-use borrow.Author.Rules.{rules}
 use Rattle.checker_ways.proofs.keep_node.Goals as goal
 
 pub returns-else-y-nodes : goal.returns-else-y-nodes

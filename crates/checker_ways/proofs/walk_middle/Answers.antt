@@ -3,7 +3,6 @@ use native.Mathlib.Omega.{arith}
 use native.Mathlib.Nat.{mod-lt}
 use Rattle.middles.specs.Parents.{some_inputs}
 use Rattle.checker_ways.proofs.Ways.{walk_first, parent_kept, parent_below, step_none, step_some}
-use borrow.Author.Rules.{rules}
 use Rattle.checker_ways.proofs.walk_middle.Goals as goal
 
 pub returns-then-y-eq0 : goal.returns-then-y-eq0

@@ -1,10 +1,8 @@
 use Prim.Native.Nat.{◌-◌}
 use native.Mathlib.Omega.{arith}
 use mathlib.Core.Path.{sym, ◌∙◌}
-use borrow.Author.Rules.{rules}
 use Rattle.checker_ways.proofs.Ways.{root_to, root_known}
 use Rattle.trie.specs.Grow.{size_pos}
-use borrow.Author.Rules.{rules}
 use Rattle.checker_ways.proofs.way_of_cover.Goals as goal
 
 pub is_marked-requires : goal.is_marked-requires

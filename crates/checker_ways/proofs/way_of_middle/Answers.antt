@@ -1,7 +1,6 @@
 use native.Mathlib.Omega.{arith}
 use mathlib.Core.Path.{refl, sym, ◌∙◌}
 use Rattle.checker_ways.proofs.Ways.{node_to, node_known, node_off, kept_more}
-use borrow.Author.Rules.{rules}
 use Rattle.checker_ways.proofs.way_of_middle.Goals as goal
 
 pub keep_node-requires : goal.keep_node-requires

@@ -1,7 +1,6 @@
 use native.Mathlib.Omega.{arith}
 use mathlib.Core.Path.{sym, ◌∙◌}
 use Rattle.comparer_search.proofs.Trying.{put_met, put_new}
-use borrow.Author.Rules.{rules}
 use Rattle.comparer_search.proofs.put.Goals as goal
 
 pub returns-then-is_met : goal.returns-then-is_met

@@ -1,12 +1,10 @@
 use Rattle.comparer_pairs.specs.Marks.{with_mark}
 use native.Mathlib.Omega.{arith}
-use borrow.Author.Rules.{rules}
-use Prim.Native.Nat.{◌+◌, ◌-◌, ◌≤◌}
-use mathlib.Core.Path.{◌≡◌, refl, sym, ap, ◌∙◌}
+use Prim.Native.Nat.{◌+◌, ◌-◌}
+use mathlib.Core.Path.{refl, sym, ap, ◌∙◌}
 use lib.ListN.{length, length-set}
-use Rattle.comparer_pairs.specs.Pairs.{pairs, golden_at, unit_at}
+use Rattle.comparer_pairs.specs.Pairs.{golden_at, unit_at}
 use Rattle.comparer_pairs.specs.Queue.{step_of}
-use Rattle.comparer_search.specs.Search.{Searched}
 use Rattle.comparer_pairs.proofs.Marking.{table_start}
 use Rattle.comparer_search.proofs.Searching.{searched_start}
 use Rattle.comparer_search.proofs.Trying.{progress_told, progress_upto, all_tried}

@@ -1,15 +1,9 @@
-use Rattle.comparer_pairs.specs.Marks.{with_mark}
-use native.Mathlib.Omega.{arith}
-use borrow.Author.Rules.{rules}
-use Prim.Native.Nat.{◌+◌, ◌-◌, ◌≤◌}
-use mathlib.Core.Path.{◌≡◌, refl, sym, ap, ◌∙◌}
-use lib.ListN.{length, length-set}
+use Prim.Native.Nat.{◌-◌, ◌≤◌}
+use mathlib.Core.Path.{◌≡◌}
+use lib.ListN.{length}
 use Rattle.comparer_pairs.specs.Pairs.{pairs, golden_at, unit_at}
 use Rattle.comparer_pairs.specs.Queue.{step_of}
 use Rattle.comparer_search.specs.Search.{Searched}
-use Rattle.comparer_pairs.proofs.Marking.{table_start}
-use Rattle.comparer_search.proofs.Searching.{searched_start}
-use Rattle.comparer_search.proofs.Trying.{progress_told, progress_upto, all_tried}
 use Rattle.comparer_search.proofs.search.Given as goal
 
 abbrev pub invariant-loop-head : goal.invariant-loop-head

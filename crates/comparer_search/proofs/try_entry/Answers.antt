@@ -1,11 +1,8 @@
 use native.Mathlib.Omega.{arith}
-use borrow.Author.Rules.{rules}
-use Prim.Native.Nat.{◌+◌, ◌-◌, ◌≤◌, ◌<◌}
-use mathlib.Core.Path.{◌≡◌, refl, ◌∙◌}
-use lib.ListN.{length}
-use Rattle.comparer_pairs.specs.Pairs.{pairs, golden_at, unit_at}
+use Prim.Native.Nat.{◌+◌, ◌-◌}
+use mathlib.Core.Path.{refl, ◌∙◌}
+use Rattle.comparer_pairs.specs.Pairs.{golden_at, unit_at}
 use Rattle.comparer_pairs.specs.Queue.{step_of}
-use Rattle.comparer_search.specs.Search.{Searched}
 use Rattle.comparer_search.proofs.Trying.{progress_told, progress_upto, entry_tried}
 use Rattle.comparer_search.proofs.try_entry.Goals as goal
 

@@ -1,12 +1,9 @@
-use native.Mathlib.Omega.{arith}
-use borrow.Author.Rules.{rules}
-use Prim.Native.Nat.{◌+◌, ◌-◌, ◌≤◌, ◌<◌}
-use mathlib.Core.Path.{◌≡◌, refl, ◌∙◌}
+use Prim.Native.Nat.{◌-◌, ◌≤◌, ◌<◌}
+use mathlib.Core.Path.{◌≡◌}
 use lib.ListN.{length}
 use Rattle.comparer_pairs.specs.Pairs.{pairs, golden_at, unit_at}
 use Rattle.comparer_pairs.specs.Queue.{step_of}
 use Rattle.comparer_search.specs.Search.{Searched}
-use Rattle.comparer_search.proofs.Trying.{progress_told, progress_upto, entry_tried}
 use Rattle.comparer_search.proofs.try_entry.Given as goal
 
 abbrev pub invariant-loop-i : goal.invariant-loop-i

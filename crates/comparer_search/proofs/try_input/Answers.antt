@@ -1,5 +1,4 @@
 use Rattle.comparer_search.proofs.Trying.{try_pair, try_tells, try_room, try_put}
-use borrow.Author.Rules.{rules}
 use Rattle.comparer_search.proofs.try_input.Goals as goal
 
 pub look-requires-clause-sides_at : goal.look-requires-clause-sides_at

@@ -2,7 +2,6 @@ use Rattle.finder_spelling.proofs.Rows.{word_room, word_spelt}
 use lib.ListN.{length, length-set}
 use native.Mathlib.Omega.{arith}
 use mathlib.Core.Path.{◌∙◌}
-use borrow.Author.Rules.{rules}
 use Rattle.finder_spelling.proofs.spell_pair.Goals as goal
 
 pub bounds-text-at : goal.bounds-text-at

@@ -1,6 +1,5 @@
-use Rattle.finder_spelling.proofs.Rows.{InRows, rows_begin, rows_size, rows_room, rows_few, rows_next, rows_end}
+use Rattle.finder_spelling.proofs.Rows.{rows_begin, rows_size, rows_room, rows_few, rows_next, rows_end}
 use Prim.Native.Nat.{◌-◌}
-use borrow.Author.Rules.{rules}
 use native.Mathlib.Omega.{arith}
 use Rattle.finder_spelling.proofs.spell_pairs.Goals as goal
 

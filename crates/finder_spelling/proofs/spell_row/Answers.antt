@@ -1,6 +1,5 @@
-use Rattle.finder_spelling.proofs.Rows.{InRow, row_start, row_room, row_next, row_end, row_size}
-use Prim.Native.Nat.{◌<◌, ◌-◌}
-use borrow.Author.Rules.{rules}
+use Rattle.finder_spelling.proofs.Rows.{row_start, row_room, row_next, row_end, row_size}
+use Prim.Native.Nat.{◌-◌}
 use native.Mathlib.Omega.{arith}
 use Rattle.finder_spelling.proofs.spell_row.Goals as goal
 

@@ -1,7 +1,5 @@
-use Rattle.finder_spelling.proofs.Rows.{InRow, row_start, row_room, row_next, row_end, row_size}
+use Rattle.finder_spelling.proofs.Rows.{InRow}
 use Prim.Native.Nat.{◌<◌, ◌-◌}
-use borrow.Author.Rules.{rules}
-use native.Mathlib.Omega.{arith}
 use Rattle.finder_spelling.proofs.spell_row.Given as goal
 
 abbrev pub invariant-loop-q : goal.invariant-loop-q

@@ -1,6 +1,5 @@
 use Rattle.finder_spelling.proofs.Sized.{pairs_room, spelt_pairs, spelt_alone}
 use native.Mathlib.Omega.{arith}
-use borrow.Author.Rules.{rules}
 use Rattle.finder_spelling.proofs.spell_words.Goals as goal
 
 pub returns-then-x-eq1 : goal.returns-then-x-eq1

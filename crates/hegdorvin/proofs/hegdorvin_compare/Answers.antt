@@ -1,7 +1,6 @@
 use mathlib.Core.Path.{◌∙◌, ap}
 use Rattle.theory.proofs.Bounds.{compare_fits}
 use Rattle.hegdorvin_packing.specs.Packed.{packed}
-use borrow.Author.Rules.{rules}
 use Rattle.hegdorvin.proofs.hegdorvin_compare.Goals as goal
 
 pub compared-requires : goal.compared-requires

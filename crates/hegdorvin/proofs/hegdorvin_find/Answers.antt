@@ -1,7 +1,6 @@
 use mathlib.Core.Path.{◌∙◌, ap}
 use Rattle.theory.specs.Bounds.{find_fits}
 use Rattle.hegdorvin_packing.specs.Packed.{packed}
-use borrow.Author.Rules.{rules}
 use Rattle.hegdorvin.proofs.hegdorvin_find.Goals as goal
 
 pub found-requires : goal.found-requires

@@ -3,7 +3,6 @@ use mathlib.Core.List.{[], ◌∷◌}
 use Rattle.rules.specs.Answers.{well}
 use Rattle.theory.specs.Bounds.{judged_part_fits}
 use Rattle.hegdorvin_packing.specs.Packed.{packed}
-use borrow.Author.Rules.{rules}
 use Rattle.hegdorvin.proofs.hegdorvin_judge_word.Goals as goal
 
 pub part-requires : goal.part-requires

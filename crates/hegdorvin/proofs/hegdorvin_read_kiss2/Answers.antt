@@ -1,7 +1,6 @@
 use mathlib.Core.Path.{◌∙◌, ap}
 use Rattle.theory.specs.Bounds.{import_fits}
 use Rattle.hegdorvin_packing.specs.Packed.{packed}
-use borrow.Author.Rules.{rules}
 use Rattle.hegdorvin.proofs.hegdorvin_read_kiss2.Goals as goal
 
 pub imported-requires : goal.imported-requires

@@ -1,7 +1,6 @@
 use mathlib.Core.Path.{◌∙◌, ap}
 use Rattle.theory.specs.Bounds.{run_fits}
 use Rattle.hegdorvin_packing.specs.Packed.{packed}
-use borrow.Author.Rules.{rules}
 use Rattle.hegdorvin.proofs.hegdorvin_run.Goals as goal
 
 pub ran-requires : goal.ran-requires

@@ -1,7 +1,6 @@
 use mathlib.Core.Path.{refl}
 use native.Mathlib.Omega.{arith}
 use Rattle.hegdorvin_packing.proofs.Laws.{plain_packed}
-use borrow.Author.Rules.{rules}
 use Rattle.hegdorvin_packing.proofs.checked.Goals as goal
 
 pub refusal-requires : goal.refusal-requires

@@ -1,5 +1,4 @@
 use Rattle.hegdorvin_packing.proofs.Laws.{missing_packed}
-use borrow.Author.Rules.{rules}
 use Rattle.hegdorvin_packing.proofs.missing.Goals as goal
 
 pub returns : goal.returns

@@ -2,7 +2,6 @@ use mathlib.Core.Path.{◌∙◌, ap}
 use Rattle.rules.specs.Answers.{file_number, refusing}
 use Rattle.hegdorvin_packing.proofs.Laws.{plain_packed}
 use Rattle.hegdorvin_packing.proofs.Small.{plain_number, missing_small}
-use borrow.Author.Rules.{rules}
 use Rattle.hegdorvin_packing.proofs.refusal.Goals as goal
 
 pub missing-requires : goal.missing-requires

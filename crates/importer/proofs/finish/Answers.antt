@@ -2,7 +2,6 @@ use native.Mathlib.Omega.{arith}
 use mathlib.Core.Path.{sym}
 use Rattle.importer.proofs.Ranks.{ranks_room, ranked_now}
 use Rattle.importer.proofs.Ending.{lacking, whole}
-use borrow.Author.Rules.{rules}
 use Rattle.std.proofs.Common.{ap}
 use Rattle.std.specs.Prelude.{not}
 use Rattle.importer.proofs.finish.Goals as goal

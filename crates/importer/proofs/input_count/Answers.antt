@@ -1,6 +1,5 @@
 use native.Mathlib.Omega.{arith}
 use Rattle.importer.proofs.Ranks.{power_low}
-use borrow.Author.Rules.{rules}
 use Rattle.importer.proofs.input_count.Goals as goal
 
 pub returns : goal.returns

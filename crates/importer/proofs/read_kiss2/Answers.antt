@@ -1,7 +1,6 @@
 use Rattle.importer.proofs.Ending.{text_long, text_bad, text_contradicts, some_read, text_read}
 use mathlib.Core.Path.{refl}
 use native.Mathlib.Omega.{arith}
-use borrow.Author.Rules.{rules}
 use Rattle.importer.proofs.read_kiss2.Goals as goal
 
 pub returns-then-text-gt-MOST_TEXT : goal.returns-then-text-gt-MOST_TEXT

@@ -1,6 +1,5 @@
 use native.Mathlib.Omega.{arith}
 use Rattle.importer.proofs.Ending.{few_entries, each_ranked, numbers_in, incomplete, no_room, tables, complete}
-use borrow.Author.Rules.{rules}
 use Rattle.importer.proofs.write_complete.Goals as goal
 
 pub overflow_mul-size : goal.overflow_mul-size

@@ -1,5 +1,4 @@
 use Rattle.importer_counts.proofs.OneMore.{number_ended, number_late, number_again, number_goes, listed_empty}
-use borrow.Author.Rules.{rules}
 use Rattle.importer_counts.proofs.count_number.Goals as goal
 
 pub returns-then-x : goal.returns-then-x

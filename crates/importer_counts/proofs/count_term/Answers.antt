@@ -1,6 +1,5 @@
 use mathlib.Core.Path.{refl}
 use Rattle.importer_counts.proofs.OneMore.{term_ended, cube_other, output_other, too_many, term_goes}
-use borrow.Author.Rules.{rules}
 use Rattle.std.proofs.Common.{ap}
 use Rattle.std.specs.Prelude.{not}
 use Rattle.importer_counts.proofs.count_term.Goals as goal

@@ -1,5 +1,4 @@
 use Rattle.importer_counts.proofs.OneMore.{not_ended, termless, terms_differ, states_decide}
-use borrow.Author.Rules.{rules}
 use Rattle.std.proofs.Common.{ap}
 use Rattle.std.specs.Prelude.{not}
 use Rattle.importer_counts.proofs.is_whole.Goals as goal

@@ -1,5 +1,4 @@
 use Rattle.importer_counts.proofs.OneMore.{with_inputs, with_outputs, with_terms, with_states}
-use borrow.Author.Rules.{rules}
 use Rattle.importer_counts.proofs.with_number.Goals as goal
 
 pub returns-in-Inputs : goal.returns-in-Inputs

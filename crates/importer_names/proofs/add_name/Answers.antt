@@ -1,5 +1,4 @@
 use Rattle.importer_names.proofs.Table.{part_long, name_added}
-use borrow.Author.Rules.{rules}
 use Rattle.importer_names.proofs.add_name.Goals as goal
 
 pub returns : goal.returns

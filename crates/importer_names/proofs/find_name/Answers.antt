@@ -1,7 +1,6 @@
-use Prim.Native.Nat.{◌-◌, ◌≤◌}
+use Prim.Native.Nat.{◌-◌}
 use native.Mathlib.Omega.{arith}
-use Rattle.importer_lines.specs.Parts.{bytes_at}
-use Rattle.importer_names.proofs.Table.{slot_in, Others, others_none, others_next, found_place, none_place}
+use Rattle.importer_names.proofs.Table.{slot_in, others_none, others_next, found_place, none_place}
 use Rattle.importer_names.proofs.find_name.Goals as goal
 
 pub loop-j-init : goal.loop-j-init

@@ -1,5 +1,4 @@
 use Rattle.importer_names.proofs.Table.{named_is, other_size, other_last}
-use borrow.Author.Rules.{rules}
 use Rattle.importer_names.proofs.is_named.Goals as goal
 
 pub returns-then-end-start : goal.returns-then-end-start

@@ -1,5 +1,4 @@
 use Rattle.importer_names.proofs.Table.{named_known, named_full, named_new}
-use borrow.Author.Rules.{rules}
 use Rattle.importer_names.proofs.number_name.Goals as goal
 
 pub returns-then-number-count : goal.returns-then-number-count

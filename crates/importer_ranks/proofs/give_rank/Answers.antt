@@ -1,5 +1,4 @@
 use native.Mathlib.Omega.{arith}
-use borrow.Author.Rules.{rules}
 use Rattle.importer_ranks.proofs.Ranking.{rank_kept, rank_given}
 use Rattle.importer_ranks.proofs.give_rank.Goals as goal
 

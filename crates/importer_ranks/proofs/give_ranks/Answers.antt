@@ -1,7 +1,6 @@
-use Prim.Native.Nat.{◌-◌}
 use native.Mathlib.Omega.{arith}
 use mathlib.Core.Path.{◌∙◌}
-use Rattle.importer_ranks.proofs.Ranking.{Ranking, ranking_start, ranking_next, ranking_done}
+use Rattle.importer_ranks.proofs.Ranking.{ranking_start, ranking_next, ranking_done}
 use Rattle.importer_ranks.proofs.give_ranks.Goals as goal
 
 pub loop-j-init : goal.loop-j-init

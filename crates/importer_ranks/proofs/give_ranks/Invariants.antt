@@ -1,7 +1,5 @@
 use Prim.Native.Nat.{◌-◌}
-use native.Mathlib.Omega.{arith}
-use mathlib.Core.Path.{◌∙◌}
-use Rattle.importer_ranks.proofs.Ranking.{Ranking, ranking_start, ranking_next, ranking_done}
+use Rattle.importer_ranks.proofs.Ranking.{Ranking}
 use Rattle.importer_ranks.proofs.give_ranks.Given as goal
 
 abbrev pub invariant-loop-j : goal.invariant-loop-j

@@ -1,14 +1,8 @@
-use Prim.Native.Nat.{ℕ, ◌-◌}
+use Prim.Native.Nat.{◌-◌}
 use native.Mathlib.Omega.{arith}
-use mathlib.Core.List.{List}
-use mathlib.Core.Bool.{not}
-use Rattle.rules.specs.Words.{is_in}
-use Rattle.rules.specs.Files.{SheetRecord}
-use Rattle.judge_records.specs.Filed.{Filed, words_of}
-use Rattle.judge_records.proofs.Standing.{WordsLeft, WordScan, words_begin, word_whole, words_next, word_scan_begin}
+use Rattle.judge_records.proofs.Standing.{words_begin, word_whole, words_next, word_scan_begin}
 use Rattle.judge_records.proofs.Looking.{record_none, record_some}
 use Rattle.judge_pairing.proofs.Pairs.{absent-found, absent_next, absent_end}
-use borrow.Author.Rules.{rules}
 use Rattle.judge_pairing.proofs.find_absent.Goals as goal
 
 pub loop-i-init : goal.loop-i-init

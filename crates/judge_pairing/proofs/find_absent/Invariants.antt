@@ -1,14 +1,10 @@
 use Prim.Native.Nat.{ℕ, ◌-◌}
-use native.Mathlib.Omega.{arith}
 use mathlib.Core.List.{List}
 use mathlib.Core.Bool.{not}
 use Rattle.rules.specs.Words.{is_in}
 use Rattle.rules.specs.Files.{SheetRecord}
 use Rattle.judge_records.specs.Filed.{Filed, words_of}
-use Rattle.judge_records.proofs.Standing.{WordsLeft, WordScan, words_begin, word_whole, words_next, word_scan_begin}
-use Rattle.judge_records.proofs.Looking.{record_none, record_some}
-use Rattle.judge_pairing.proofs.Pairs.{absent-found, absent_next, absent_end}
-use borrow.Author.Rules.{rules}
+use Rattle.judge_records.proofs.Standing.{WordsLeft, WordScan}
 use Rattle.judge_pairing.proofs.find_absent.Given as goal
 
 abbrev pub invariant-loop-i : goal.invariant-loop-i

@@ -1,7 +1,6 @@
 use mathlib.Core.Path.{◌∙◌}
 use Rattle.judge_records.proofs.Looking.{filed_node}
 use Rattle.judge_pairing.proofs.Pairs.{filed_knowing, first_refused}
-use borrow.Author.Rules.{rules}
 use Rattle.judge_pairing.proofs.find_unpaired.Goals as goal
 
 pub mark_tests-requires-clause-words_at : goal.mark_tests-requires-clause-words_at

@@ -1,4 +1,3 @@
-use borrow.Author.Rules.{rules}
 use Rattle.judge_pairing.proofs.first_refusal.Goals as goal
 
 pub returns-in-At : goal.returns-in-At

@@ -1,7 +1,6 @@
 use native.Mathlib.Omega.{arith}
 use mathlib.Core.Path.{sym, ◌∙◌}
 use Rattle.judge_pairing.proofs.Pairs.{records_room, pair_repeated, pair_unrepeated, refused_not_fine}
-use borrow.Author.Rules.{rules}
 use Rattle.judge_pairing.proofs.pair.Goals as goal
 
 pub put_records-requires-clause-records_at : goal.put_records-requires-clause-records_at

@@ -1,7 +1,6 @@
 use native.Mathlib.Omega.{arith}
 use Rattle.trie.specs.Values.{insert_below}
 use Rattle.judge_records.proofs.Filing.{counted_root, put_old, put_new, put_full}
-use borrow.Author.Rules.{rules}
 use Rattle.judge_records.proofs.put_record.Goals as goal
 
 pub put_word-requires-clause-whole : goal.put_word-requires-clause-whole

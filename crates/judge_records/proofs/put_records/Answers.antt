@@ -1,11 +1,9 @@
 use Rattle.reader.proofs.Held.{records_inside}
 use Prim.Native.Nat.{◌-◌, ◌<◌}
 use native.Mathlib.Omega.{arith}
-use mathlib.Core.Path.{◌≡◌, refl, ◌∙◌}
-use lib.ListN.{length}
+use mathlib.Core.Path.{refl, ◌∙◌}
 use Rattle.judge_records.proofs.Standing.{record_whole}
-use Rattle.judge_records.proofs.Filing.{Filing, filing_begin, filing_counted, filing_old, filing_next, filing_full, filing_end, at_not_nothing}
-use borrow.Author.Rules.{rules}
+use Rattle.judge_records.proofs.Filing.{filing_begin, filing_counted, filing_old, filing_next, filing_full, filing_end, at_not_nothing}
 use Rattle.judge_records.proofs.put_records.Goals as goal
 
 pub start-nodes-requires-clause-label_nonzero : goal.start-nodes-requires-clause-label_nonzero

@@ -1,11 +1,7 @@
-use Rattle.reader.proofs.Held.{records_inside}
-use Prim.Native.Nat.{◌-◌, ◌<◌}
-use native.Mathlib.Omega.{arith}
-use mathlib.Core.Path.{◌≡◌, refl, ◌∙◌}
+use Prim.Native.Nat.{◌-◌}
+use mathlib.Core.Path.{◌≡◌}
 use lib.ListN.{length}
-use Rattle.judge_records.proofs.Standing.{record_whole}
-use Rattle.judge_records.proofs.Filing.{Filing, filing_begin, filing_counted, filing_old, filing_next, filing_full, filing_end, at_not_nothing}
-use borrow.Author.Rules.{rules}
+use Rattle.judge_records.proofs.Filing.{Filing}
 use Rattle.judge_records.proofs.put_records.Given as goal
 
 abbrev pub invariant-loop-i : goal.invariant-loop-i

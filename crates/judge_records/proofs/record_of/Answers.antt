@@ -1,5 +1,4 @@
 use Rattle.reader.specs.Turns.{word_part}
-use borrow.Author.Rules.{rules}
 use Rattle.judge_records.proofs.record_of.Goals as goal
 
 pub returns : goal.returns

@@ -1,19 +1,9 @@
 use Rattle.reader.proofs.Held.{words_inside}
 use Prim.Native.Nat.{◌-◌, ◌<◌}
 use native.Mathlib.Omega.{arith}
-use mathlib.Core.Path.{◌≡◌}
-use mathlib.Core.List.{List}
-use mathlib.Core.Bool.{not}
-use Rattle.rules.specs.Words.{same}
-use Rattle.rules.specs.Machines.{answer}
-use Rattle.rules.specs.Files.{SheetRecord}
-use Rattle.rules.specs.Operations.{recorded_for}
-use Rattle.theory.specs.Pairing.{NoneRepeated}
-use Rattle.reader.specs.Places.{word_place, machine_at}
-use Rattle.judge_records.specs.Filed.{Filed}
-use Rattle.judge_records.proofs.Standing.{WordsLeft, WordScan, words_begin, word_whole, words_next, word_scan_begin}
+use Rattle.reader.specs.Places.{machine_at}
+use Rattle.judge_records.proofs.Standing.{words_begin, word_whole, words_next, word_scan_begin}
 use Rattle.judge_verdict.proofs.Deviating.{served_word, place_first, place_after, deviating_found, deviating_next, deviating_end}
-use borrow.Author.Rules.{rules}
 use Rattle.judge_verdict.proofs.find_deviating.Goals as goal
 
 pub loop-i-init : goal.loop-i-init

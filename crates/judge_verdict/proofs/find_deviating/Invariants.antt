@@ -1,6 +1,4 @@
-use Rattle.reader.proofs.Held.{words_inside}
-use Prim.Native.Nat.{◌-◌, ◌<◌}
-use native.Mathlib.Omega.{arith}
+use Prim.Native.Nat.{◌-◌}
 use mathlib.Core.Path.{◌≡◌}
 use mathlib.Core.List.{List}
 use mathlib.Core.Bool.{not}
@@ -11,9 +9,7 @@ use Rattle.rules.specs.Operations.{recorded_for}
 use Rattle.theory.specs.Pairing.{NoneRepeated}
 use Rattle.reader.specs.Places.{word_place, machine_at}
 use Rattle.judge_records.specs.Filed.{Filed}
-use Rattle.judge_records.proofs.Standing.{WordsLeft, WordScan, words_begin, word_whole, words_next, word_scan_begin}
-use Rattle.judge_verdict.proofs.Deviating.{served_word, place_first, place_after, deviating_found, deviating_next, deviating_end}
-use borrow.Author.Rules.{rules}
+use Rattle.judge_records.proofs.Standing.{WordsLeft, WordScan}
 use Rattle.judge_verdict.proofs.find_deviating.Given as goal
 
 abbrev pub invariant-loop-i : goal.invariant-loop-i

@@ -1,8 +1,6 @@
-use borrow.Author.Rules.{rules}
 use Rattle.line_writer.proofs.Digits.{one_digit, more_digits, digits_room}
 use Rattle.line_writer.proofs.Writing.{puts_then}
 use native.Mathlib.Omega.{arith}
-use Prim.Native.Nat.{ℕ, ◌<◌}
 use Rattle.line_writer.proofs.+put_digits.Goals as goal
 
 -- `put_digits`. The digits of a tenth of the number, then the last. The measure is the number.

@@ -1,6 +1,5 @@
 use Rattle.line_writer.proofs.Writing.{puts_then}
 use native.Mathlib.Omega.{arith}
-use borrow.Author.Rules.{rules}
 use Rattle.line_writer.proofs.add_decimal.Goals as goal
 
 pub returns-clause-puts : goal.returns-clause-puts

@@ -1,6 +1,5 @@
 use Rattle.line_writer.proofs.Writing.{puts_then, hex-length}
 use native.Mathlib.Omega.{arith}
-use borrow.Author.Rules.{rules}
 use Rattle.line_writer.proofs.add_hex.Goals as goal
 
 pub put_hex-requires-clause-word_in_bounds : goal.put_hex-requires-clause-word_in_bounds

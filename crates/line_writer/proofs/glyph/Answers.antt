@@ -1,6 +1,5 @@
 use native.Mathlib.Omega.{arith}
 use borrow.Author.Tests.{lt-ltb, le-ltb}
-use borrow.Author.Rules.{rules}
 use Rattle.line_writer.proofs.glyph.Goals as goal
 
 pub returns-then-number-lt10 : goal.returns-then-number-lt10

@@ -1,6 +1,5 @@
 use Rattle.line_writer.proofs.Digits.{digits_few}
 use native.Mathlib.Omega.{arith}
-use borrow.Author.Rules.{rules}
 use Rattle.line_writer.proofs.put_decimal.Goals as goal
 
 pub put_digits-requires : goal.put_digits-requires

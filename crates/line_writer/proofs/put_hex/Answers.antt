@@ -1,9 +1,8 @@
-use borrow.Author.Rules.{rules}
-use Rattle.line_writer.proofs.Writing.{Putting, putting_start, putting_next, putting_end, hex-length, hex_at, input_valid}
+use Rattle.line_writer.proofs.Writing.{putting_start, putting_next, putting_end, hex-length, hex_at, input_valid}
 use mathlib.Core.Path.{◌∙◌, sym}
 use Rattle.rules.specs.Line.{hex}
 use native.Mathlib.Omega.{arith}
-use Prim.Native.Nat.{◌-◌, ◌<◌}
+use Prim.Native.Nat.{◌<◌}
 use lib.ListN.{length}
 use Rattle.line_writer.proofs.put_hex.Goals as goal
 

@@ -1,9 +1,6 @@
-use borrow.Author.Rules.{rules}
 use mathlib.Core.Path.{refl}
-use Rattle.line_writer.proofs.Writing.{Putting, putting_start, putting_next, putting_end}
+use Rattle.line_writer.proofs.Writing.{putting_start, putting_next, putting_end}
 use native.Mathlib.Omega.{arith}
-use Prim.Native.Nat.{◌-◌}
-use lib.ListN.{length}
 use Rattle.line_writer.proofs.put_text.Goals as goal
 
 pub loop-i-init : goal.loop-i-init

@@ -1,7 +1,4 @@
-use borrow.Author.Rules.{rules}
-use mathlib.Core.Path.{refl}
-use Rattle.line_writer.proofs.Writing.{Putting, putting_start, putting_next, putting_end}
-use native.Mathlib.Omega.{arith}
+use Rattle.line_writer.proofs.Writing.{Putting}
 use Prim.Native.Nat.{◌-◌}
 use lib.ListN.{length}
 use Rattle.line_writer.proofs.put_text.Given as goal

@@ -1,6 +1,5 @@
 use borrow.Author.Rules.{rules}
 use native.Mathlib.Omega.{arith}
-use Prim.Native.Nat.{ℕ, ◌<◌}
 use Rattle.middles.proofs.Growth.{no_more, count_more}
 use Rattle.middles.proofs.+count.Goals as goal
 

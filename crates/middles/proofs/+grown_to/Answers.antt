@@ -1,6 +1,4 @@
-use borrow.Author.Rules.{rules}
 use native.Mathlib.Omega.{arith}
-use Prim.Native.Nat.{ℕ, ◌<◌}
 use Rattle.middles.proofs.Growth.{none_left, next_lt, others_lt, one_more}
 use Rattle.middles.proofs.+grown_to.Goals as goal
 

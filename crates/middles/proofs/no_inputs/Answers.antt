@@ -1,4 +1,3 @@
-use borrow.Author.Rules.{rules}
 use Rattle.middles.specs.Places.{none_word}
 use Rattle.middles.proofs.no_inputs.Goals as goal
 

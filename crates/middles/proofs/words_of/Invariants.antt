@@ -1,10 +1,7 @@
-use borrow.Author.Rules.{rules}
 use Prim.Native.Nat.{◌≤◌, ◌<◌, ◌-◌}
-use mathlib.Core.Path.{◌≡◌, refl}
-use native.Mathlib.Omega.{arith}
+use mathlib.Core.Path.{◌≡◌}
 use lib.ListN.{length}
 use Rattle.rules.specs.Words.{words_of}
-use Rattle.middles.proofs.Growth.{words_turn}
 use Rattle.middles.proofs.words_of.Given as goal
 
 abbrev pub invariant-loop-n : goal.invariant-loop-n

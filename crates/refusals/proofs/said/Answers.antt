@@ -1,6 +1,5 @@
 use mathlib.Core.Path.{◌∙◌}
 use native.Mathlib.Omega.{arith}
-use borrow.Author.Rules.{rules}
 use Rattle.refusals.proofs.said.Goals as goal
 
 pub returns-in-Malformed : goal.returns-in-Malformed

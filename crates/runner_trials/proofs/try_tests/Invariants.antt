@@ -1,8 +1,5 @@
 use Prim.Native.Nat.{◌-◌}
-use native.Mathlib.Omega.{arith}
-use borrow.Author.Rules.{rules}
 use Rattle.runner_trials.specs.Trials.{TestsLeft}
-use Rattle.runner_trials.proofs.Tests.{tests_start, tests_end, test_here, test_tables, test_fails, test_passes}
 use Rattle.runner_trials.proofs.try_tests.Given as goal
 
 abbrev pub invariant-loop-place : goal.invariant-loop-place

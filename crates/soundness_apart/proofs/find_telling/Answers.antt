@@ -1,11 +1,9 @@
-use Prim.Native.Nat.{◌≤◌, ◌<◌}
 use native.Mathlib.Omega.{arith}
-use mathlib.Core.Path.{◌≡◌, refl, sym, ◌∙◌, ap}
-use borrow.Author.Rules.{rules}
+use mathlib.Core.Path.{refl, sym, ◌∙◌, ap}
 use borrow.Author.Tests.{not-true, not-false}
-use Rattle.rules.specs.Lists.{◌∈◌, all}
+use Rattle.rules.specs.Lists.{◌∈◌}
 use Rattle.rules.specs.Words.{Word}
-use Rattle.reader.specs.Places.{machine_at, word_at, words_at, WordsAt}
+use Rattle.reader.specs.Places.{machine_at, words_at}
 use Rattle.reader.specs.Turns.{word_turn}
 use Rattle.soundness_apart.specs.Separating.{alike_on}
 use Rattle.reader.specs.Turns.{word_room, words_after}

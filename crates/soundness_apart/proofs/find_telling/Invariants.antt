@@ -1,16 +1,8 @@
-use Prim.Native.Nat.{◌≤◌, ◌<◌}
-use native.Mathlib.Omega.{arith}
-use mathlib.Core.Path.{◌≡◌, refl, sym, ◌∙◌, ap}
-use borrow.Author.Rules.{rules}
-use borrow.Author.Tests.{not-true, not-false}
+use mathlib.Core.Path.{◌≡◌}
 use Rattle.rules.specs.Lists.{◌∈◌, all}
 use Rattle.rules.specs.Words.{Word}
-use Rattle.reader.specs.Places.{machine_at, word_at, words_at, WordsAt}
-use Rattle.reader.specs.Turns.{word_turn}
+use Rattle.reader.specs.Places.{machine_at, words_at, WordsAt}
 use Rattle.soundness_apart.specs.Separating.{alike_on}
-use Rattle.reader.specs.Turns.{word_room, words_after}
-use Rattle.soundness_reach.proofs.Sections.{word_member, rest_members, all_next, all_end}
-use Rattle.std.specs.Prelude.{not}
 use Rattle.soundness_apart.proofs.find_telling.Given as goal
 
 abbrev pub invariant-loop-left : goal.invariant-loop-left

@@ -1,6 +1,5 @@
 use native.Mathlib.Omega.{arith}
 use Rattle.soundness_apart.proofs.Remembered.{remembered}
-use borrow.Author.Rules.{rules}
 use Rattle.soundness_apart.proofs.remember.Goals as goal
 
 pub returns : goal.returns

@@ -1,6 +1,5 @@
-use mathlib.Core.Path.{◌≡◌, refl, sym, ◌∙◌, ap}
+use mathlib.Core.Path.{sym}
 use Rattle.soundness_apart.proofs.Remembered.{told_apart}
-use borrow.Author.Rules.{rules}
 use Rattle.soundness_apart.proofs.see_pair.Goals as goal
 
 pub returns-then-told_by_known : goal.returns-then-told_by_known

@@ -1,11 +1,9 @@
-use Prim.Native.Nat.{◌≤◌, ◌<◌, ◌+◌, ◌-◌}
+use Prim.Native.Nat.{◌-◌}
 use native.Mathlib.Omega.{arith}
-use mathlib.Core.Path.{◌≡◌, refl, sym, ◌∙◌, ap}
+use mathlib.Core.Path.{sym, ◌∙◌, ap}
 use borrow.Author.Rules.{rules}
-use borrow.Author.Tests.{not-true, not-false}
-use Rattle.rules.specs.Lists.{first, numbers_from}
 use Rattle.soundness_reach.specs.Reached.{state_found}
-use Rattle.soundness_apart.specs.Separating.{golden_at, separators_at, alike, KnownAt}
+use Rattle.soundness_apart.specs.Separating.{golden_at, separators_at, alike}
 use Rattle.soundness_apart.proofs.Remembered.{seen_is}
 use Rattle.soundness_reach.proofs.Marks.{lowest_here, lowest_next, lowest_none, state_found_lem}
 use Rattle.soundness_apart.proofs.see_row.Goals as goal

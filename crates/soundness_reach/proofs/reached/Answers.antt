@@ -1,12 +1,11 @@
-use Prim.Native.Nat.{◌≤◌, ◌<◌}
+use Prim.Native.Nat.{◌<◌}
 use native.Mathlib.Omega.{arith}
-use mathlib.Core.Path.{◌≡◌, refl, sym, ◌∙◌, ap}
-use borrow.Author.Rules.{rules}
+use mathlib.Core.Path.{◌∙◌}
 use lib.ListN.{length, length-set}
-use Rattle.reader.specs.Places.{machine_at, words_at, WordsAt}
+use Rattle.reader.specs.Places.{words_at}
 use Rattle.reader.specs.Turns.{word_turn}
 use Rattle.reader.specs.Turns.{word_room, words_after}
-use Rattle.soundness_reach.proofs.Marks.{Marking, unmarked-length, marking_start, marking_next, marking_end}
+use Rattle.soundness_reach.proofs.Marks.{unmarked-length, marking_start, marking_next, marking_end}
 use Rattle.soundness_reach.proofs.reached.Goals as goal
 
 pub loop-left-init : goal.loop-left-init

@@ -1,12 +1,7 @@
-use Prim.Native.Nat.{◌≤◌, ◌<◌}
-use native.Mathlib.Omega.{arith}
-use mathlib.Core.Path.{◌≡◌, refl, sym, ◌∙◌, ap}
-use borrow.Author.Rules.{rules}
-use lib.ListN.{length, length-set}
+use mathlib.Core.Path.{◌≡◌}
+use lib.ListN.{length}
 use Rattle.reader.specs.Places.{machine_at, words_at, WordsAt}
-use Rattle.reader.specs.Turns.{word_turn}
-use Rattle.reader.specs.Turns.{word_room, words_after}
-use Rattle.soundness_reach.proofs.Marks.{Marking, unmarked-length, marking_start, marking_next, marking_end}
+use Rattle.soundness_reach.proofs.Marks.{Marking}
 use Rattle.soundness_reach.proofs.reached.Given as goal
 
 abbrev pub invariant-loop-left : goal.invariant-loop-left

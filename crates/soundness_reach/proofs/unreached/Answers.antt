@@ -1,8 +1,6 @@
-use Prim.Native.Nat.{◌≤◌, ◌<◌, ◌-◌}
-use native.Mathlib.Omega.{arith}
-use mathlib.Core.Path.{◌≡◌, refl, sym, ◌∙◌, ap}
+use Prim.Native.Nat.{◌-◌}
+use mathlib.Core.Path.{sym, ◌∙◌, ap}
 use borrow.Author.Rules.{rules}
-use Rattle.rules.specs.Lists.{first, numbers, numbers_from}
 use Rattle.reader.specs.Places.{machine_at, words_at}
 use Rattle.soundness_reach.specs.Reached.{lacks, state_found}
 use Rattle.soundness_reach.proofs.Marks.{lowest_here, lowest_next, lowest_none, unlit_lacks, lit-lacks, lowest_start, state_found_lem}

@@ -1,11 +1,8 @@
-use Prim.Native.Nat.{◌≤◌, ◌<◌, ◌-◌}
-use native.Mathlib.Omega.{arith}
-use mathlib.Core.Path.{◌≡◌, refl, sym, ◌∙◌, ap}
-use borrow.Author.Rules.{rules}
+use Prim.Native.Nat.{◌≤◌, ◌-◌}
+use mathlib.Core.Path.{◌≡◌}
 use Rattle.rules.specs.Lists.{first, numbers, numbers_from}
 use Rattle.reader.specs.Places.{machine_at, words_at}
-use Rattle.soundness_reach.specs.Reached.{lacks, state_found}
-use Rattle.soundness_reach.proofs.Marks.{lowest_here, lowest_next, lowest_none, unlit_lacks, lit-lacks, lowest_start, state_found_lem}
+use Rattle.soundness_reach.specs.Reached.{lacks}
 use Rattle.soundness_reach.proofs.unreached.Given as goal
 
 abbrev pub invariant-loop-q : goal.invariant-loop-q

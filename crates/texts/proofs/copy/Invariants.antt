@@ -1,10 +1,7 @@
-use mathlib.Core.Path.{◌≡◌, refl}
+use mathlib.Core.Path.{◌≡◌}
 use Prim.Native.Nat.{◌≤◌, ◌-◌}
-use native.Mathlib.Omega.{arith}
-use lib.ListN.{length, length-set}
-use lib.Seq.{paste, paste-zero}
-use borrow.Author.Rules.{rules}
-use Rattle.texts.proofs.Copied.{paste_next}
+use lib.ListN.{length}
+use lib.Seq.{paste}
 use Rattle.texts.proofs.copy.Given as goal
 
 abbrev pub invariant-loop-i : goal.invariant-loop-i

@@ -1,7 +1,5 @@
-use borrow.Author.Rules.{rules}
-use Rattle.texts.proofs.Alike.{Alike, other_length, alike_start, alike_end, alike_inside, alike_next, alike_other}
+use Rattle.texts.proofs.Alike.{Alike}
 use Prim.Native.Nat.{◌-◌}
-use native.Mathlib.Omega.{arith}
 use lib.ListN.{length}
 use Rattle.texts.proofs.same_text.Given as goal
 

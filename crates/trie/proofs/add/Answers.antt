@@ -1,6 +1,5 @@
 use mathlib.Core.Path.{refl}
 use Rattle.trie.proofs.Chain.{grown}
-use borrow.Author.Rules.{rules}
 use Rattle.trie.proofs.add.Goals as goal
 
 pub returns : goal.returns

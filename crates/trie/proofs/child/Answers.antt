@@ -1,10 +1,7 @@
 use mathlib.Core.Path.{◌∙◌, ap}
-use Prim.Native.Nat.{◌<◌}
 use native.Mathlib.Omega.{arith}
-use borrow.Author.Rules.{rules}
-use Rattle.trie.specs.Model.{Trie, size, child_in}
-use Rattle.trie.specs.Holds.{Holds}
-use Rattle.trie.proofs.Chain.{Along, along_start, along_here, along_next, next_less, along_end}
+use Rattle.trie.specs.Model.{child_in}
+use Rattle.trie.proofs.Chain.{along_start, along_here, along_next, next_less, along_end}
 use Rattle.trie.proofs.child.Goals as goal
 
 pub offset_bounds-first-p : goal.offset_bounds-first-p

@@ -1,8 +1,6 @@
-use borrow.Author.Rules.{rules}
-use mathlib.Core.Path.{◌≡◌, refl}
-use Prim.Native.Nat.{ℕ, ◌-◌, ◌<◌}
+use mathlib.Core.Path.{refl}
 use native.Mathlib.Omega.{arith}
-use lib.ListN.{length, get_or, length-set}
+use lib.ListN.{length-set}
 use Rattle.trie.specs.Values.{marks_of, noted_empty}
 use Rattle.trie.proofs.Stores.{zero_more, zero_all}
 use Rattle.trie.proofs.clear_marks.Goals as goal

@@ -1,10 +1,6 @@
-use borrow.Author.Rules.{rules}
-use mathlib.Core.Path.{◌≡◌, refl}
+use mathlib.Core.Path.{◌≡◌}
 use Prim.Native.Nat.{ℕ, ◌-◌, ◌<◌}
-use native.Mathlib.Omega.{arith}
-use lib.ListN.{length, get_or, length-set}
-use Rattle.trie.specs.Values.{marks_of, noted_empty}
-use Rattle.trie.proofs.Stores.{zero_more, zero_all}
+use lib.ListN.{length, get_or}
 use Rattle.trie.proofs.clear_marks.Given as goal
 
 abbrev pub invariant-loop-i : goal.invariant-loop-i

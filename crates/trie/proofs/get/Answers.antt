@@ -1,4 +1,3 @@
-use borrow.Author.Rules.{rules}
 use native.Mathlib.Omega.{arith}
 use Rattle.trie.specs.Grow.{size_pos}
 use Rattle.trie.specs.Values.{found, missed, reached}

@@ -1,11 +1,7 @@
-use mathlib.Core.Path.{◌≡◌, refl, ◌∙◌}
-use Prim.Native.Nat.{◌≤◌, ◌-◌}
+use mathlib.Core.Path.{refl, ◌∙◌}
 use native.Mathlib.Omega.{arith}
-use lib.ListN.{length}
 use borrow.Author.Rules.{rules}
-use Rattle.trie.specs.Model.{Trie, size}
-use Rattle.trie.specs.Holds.{Holds}
-use Rattle.trie.proofs.Steps.{Inserting, inserting_start, inserting_next, inserting_full, inserting_end}
+use Rattle.trie.proofs.Steps.{inserting_start, inserting_next, inserting_full, inserting_end}
 use Rattle.trie.proofs.insert_at.Goals as goal
 
 pub loop-i-init : goal.loop-i-init
@@ -33,14 +29,14 @@ returns-in-Full c = λ t h k.
 
 pub loop-i-preserved : goal.loop-i-preserved
 loop-i-preserved c = (
-      search rules,
-      c.step.auto.label ∙ c.loop-i.invariant.1,
-      c.step.auto.first ∙ c.loop-i.invariant.2,
-      c.step.auto.next ∙ c.loop-i.invariant.3,
-      λ t h k.
-          let at = c.loop-i.invariant.4 t h k in
-          inserting_next t _ _ _ _ _ _ _ _ at _ _ _ _ _ _ c.loop-i-test.true (rw c.numbered.ensures at (c.step.ensures at.trie at.holds at.counted)) c.in-To.is,
-    )
+  search rules,
+  c.step.auto.label ∙ c.loop-i.invariant.1,
+  c.step.auto.first ∙ c.loop-i.invariant.2,
+  c.step.auto.next ∙ c.loop-i.invariant.3,
+  λ t h k.
+      let at = c.loop-i.invariant.4 t h k in
+      inserting_next t _ _ _ _ _ _ _ _ at _ _ _ _ _ _ c.loop-i-test.true (rw c.numbered.ensures at (c.step.ensures at.trie at.holds at.counted)) c.in-To.is,
+)
 
 pub shape_of-label : goal.shape_of-label
 shape_of-label c = c.loop-i.invariant.1

@@ -1,11 +1,9 @@
-use mathlib.Core.Path.{◌≡◌, refl, ◌∙◌}
+use mathlib.Core.Path.{◌≡◌}
 use Prim.Native.Nat.{◌≤◌, ◌-◌}
-use native.Mathlib.Omega.{arith}
 use lib.ListN.{length}
-use borrow.Author.Rules.{rules}
 use Rattle.trie.specs.Model.{Trie, size}
 use Rattle.trie.specs.Holds.{Holds}
-use Rattle.trie.proofs.Steps.{Inserting, inserting_start, inserting_next, inserting_full, inserting_end}
+use Rattle.trie.proofs.Steps.{Inserting}
 use Rattle.trie.proofs.insert_at.Given as goal
 
 abbrev pub invariant-loop-i : goal.invariant-loop-i

@@ -1,4 +1,3 @@
-use borrow.Author.Rules.{rules}
 use Rattle.trie.specs.Values.{marked_told}
 use Rattle.trie.proofs.is_marked.Goals as goal
 

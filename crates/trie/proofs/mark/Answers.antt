@@ -1,4 +1,3 @@
-use borrow.Author.Rules.{rules}
 use Rattle.trie.specs.Values.{marked_put}
 use Rattle.trie.proofs.mark.Goals as goal
 

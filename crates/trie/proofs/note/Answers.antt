@@ -1,4 +1,3 @@
-use borrow.Author.Rules.{rules}
 use Rattle.trie.specs.Values.{noted_put}
 use Rattle.trie.proofs.note.Goals as goal
 

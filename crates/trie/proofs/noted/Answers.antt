@@ -1,4 +1,3 @@
-use borrow.Author.Rules.{rules}
 use Rattle.trie.proofs.noted.Goals as goal
 
 pub returns : goal.returns

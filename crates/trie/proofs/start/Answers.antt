@@ -1,6 +1,5 @@
 use mathlib.Core.Path.{refl}
 use Rattle.trie.proofs.Chain.{started}
-use borrow.Author.Rules.{rules}
 use Rattle.trie.proofs.start.Goals as goal
 
 pub returns : goal.returns

@@ -1,7 +1,6 @@
 use mathlib.Core.Path.{sym, ◌∙◌}
 use native.Mathlib.Omega.{arith}
 use Rattle.trie.proofs.Steps.{step_kept, step_made, step_full}
-use borrow.Author.Rules.{rules}
 use Rattle.trie.proofs.step.Goals as goal
 
 pub child-j-requires : goal.child-j-requires

@@ -1,9 +1,5 @@
-use mathlib.Core.Path.{◌≡◌, refl, sym, ◌∙◌}
-use Prim.Native.Nat.{◌≤◌, ◌<◌, ◌-◌}
-use lib.ListN.{length, drop}
+use mathlib.Core.Path.{refl, sym, ◌∙◌}
 use borrow.Author.Rules.{rules}
-use Rattle.trie.specs.Model.{Trie, size, walk_from}
-use Rattle.trie.specs.Holds.{Holds}
 use Rattle.trie.specs.Grow.{child_lt}
 use Rattle.trie.proofs.Steps.{walk_step, walk_off, walk_end}
 use Rattle.trie.proofs.walk.Goals as goal

@@ -1,11 +1,8 @@
-use mathlib.Core.Path.{◌≡◌, refl, sym, ◌∙◌}
+use mathlib.Core.Path.{◌≡◌}
 use Prim.Native.Nat.{◌≤◌, ◌<◌, ◌-◌}
 use lib.ListN.{length, drop}
-use borrow.Author.Rules.{rules}
 use Rattle.trie.specs.Model.{Trie, size, walk_from}
 use Rattle.trie.specs.Holds.{Holds}
-use Rattle.trie.specs.Grow.{child_lt}
-use Rattle.trie.proofs.Steps.{walk_step, walk_off, walk_end}
 use Rattle.trie.proofs.walk.Given as goal
 
 abbrev pub invariant-loop-i : goal.invariant-loop-i

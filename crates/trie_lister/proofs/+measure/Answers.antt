@@ -1,16 +1,13 @@
 use borrow.Author.Rules.{rules}
-use Prim.Native.Nat.{ℕ, ◌+◌, ◌-◌, ◌≤◌, ◌<◌}
-use mathlib.Core.Path.{◌≡◌, refl, sym, ◌∙◌}
+use Prim.Native.Nat.{◌+◌, ◌-◌}
+use mathlib.Core.Path.{refl, sym, ◌∙◌}
 use mathlib.Core.List.{[], ◌∷◌, ◌++◌}
 use native.Mathlib.Omega.{arith}
-use lib.ListN.{length}
-use Rattle.rules.specs.Words.{Word}
-use Rattle.trie.specs.Model.{Trie, size, word_of}
-use Rattle.trie.specs.Holds.{Holds}
+use Rattle.trie.specs.Model.{size, word_of}
 use Rattle.trie.specs.Grow.{child_lt}
 use Rattle.trie.specs.Words.{child_gt}
 use Rattle.trie_lister.proofs.Writes.{visiting_level, visiting_child, visiting_down}
-use Rattle.trie_lister.proofs.Measures.{fits_bounds, deeper, measure_leaf, measure_over, Measuring, measuring_start, measuring_skip, measuring_more, measuring_over, measuring_end}
+use Rattle.trie_lister.proofs.Measures.{fits_bounds, deeper, measure_leaf, measure_over, measuring_start, measuring_skip, measuring_more, measuring_over, measuring_end}
 use Rattle.trie_lister.proofs.+measure.Goals as goal
 
 -- what the callees ask and tell
@@ -42,32 +39,32 @@ returns-then-first-node-eq0 t c = λ x h less d deep u long.
 
 pub loop-a-init : goal.loop-a-init
 loop-a-init t c = (
-      search rules,
-      c.requires.1,
-      c.requires.2,
-      λ x h less d deep u long. measuring_start x c.args.k d c.args.node u c.args.words c.args.at c.args.room deep less (λ z. c.if-first-node-eq0.false (h.firsts c.args.node less ∙ z)),
-    )
+  search rules,
+  c.requires.1,
+  c.requires.2,
+  λ x h less d deep u long. measuring_start x c.args.k d c.args.node u c.args.words c.args.at c.args.room deep less (λ z. c.if-first-node-eq0.false (h.firsts c.args.node less ∙ z)),
+)
 
 pub child-j-requires : goal.child-j-requires
 child-j-requires t c = record { trie = c.requires.0.trie; holds = c.requires.0.holds; below = c.requires.0.below }
 
 pub loop-a-preserved-then-j-eq0 : goal.loop-a-preserved-then-j-eq0
 loop-a-preserved-then-j-eq0 t c = (
-      search rules,
-      c.loop-a.invariant.1,
-      c.loop-a.invariant.2,
-      λ x h less d deep u long.
-          measuring_skip x c.args.k d c.args.node u c.args.words c.args.at c.args.room c.loop-a.a c.loop-a.n c.loop-a.pos (c.loop-a.invariant.3 x h less d deep u long) _ c.loop-a-test.true (rw c.numbered.ensures at (c.child-j.ensures x h less)) c.if-j-eq0.true,
-    )
+  search rules,
+  c.loop-a.invariant.1,
+  c.loop-a.invariant.2,
+  λ x h less d deep u long.
+      measuring_skip x c.args.k d c.args.node u c.args.words c.args.at c.args.room c.loop-a.a c.loop-a.n c.loop-a.pos (c.loop-a.invariant.3 x h less d deep u long) _ c.loop-a-test.true (rw c.numbered.ensures at (c.child-j.ensures x h less)) c.if-j-eq0.true,
+)
 
 pub overflow_add-depth : goal.overflow_add-depth
 overflow_add-depth t c = omega (arith, visiting_level _ _ _ _ _ _ c.requires.0)
 
 pub measure-deeper-requires : goal.measure-deeper-requires
 measure-deeper-requires t c = let e = (rw c.numbered.ensures at (c.child-j.ensures c.requires.0.trie c.requires.0.holds c.requires.0.below)) in (
-      omega (arith, visiting_down _ _ _ _ _ _ c.requires.0 _ _ e c.if-j-eq0.false, c.decreases),
-      (visiting_child _ _ _ _ _ _ c.requires.0 _ _ e c.if-j-eq0.false _ refl, c.loop-a.invariant.1, c.loop-a.invariant.2),
-    )
+  omega (arith, visiting_down _ _ _ _ _ _ c.requires.0 _ _ e c.if-j-eq0.false, c.decreases),
+  (visiting_child _ _ _ _ _ _ c.requires.0 _ _ e c.if-j-eq0.false _ refl, c.loop-a.invariant.1, c.loop-a.invariant.2),
+)
 
 pub returns-in_default : goal.returns-in_default
 returns-in_default t c = λ x h less d deep u long.

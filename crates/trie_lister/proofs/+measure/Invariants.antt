@@ -1,16 +1,10 @@
-use borrow.Author.Rules.{rules}
 use Prim.Native.Nat.{ℕ, ◌+◌, ◌-◌, ◌≤◌, ◌<◌}
-use mathlib.Core.Path.{◌≡◌, refl, sym, ◌∙◌}
-use mathlib.Core.List.{[], ◌∷◌, ◌++◌}
-use native.Mathlib.Omega.{arith}
+use mathlib.Core.Path.{◌≡◌}
 use lib.ListN.{length}
 use Rattle.rules.specs.Words.{Word}
-use Rattle.trie.specs.Model.{Trie, size, word_of}
+use Rattle.trie.specs.Model.{Trie, size}
 use Rattle.trie.specs.Holds.{Holds}
-use Rattle.trie.specs.Grow.{child_lt}
-use Rattle.trie.specs.Words.{child_gt}
-use Rattle.trie_lister.proofs.Writes.{visiting_level, visiting_child, visiting_down}
-use Rattle.trie_lister.proofs.Measures.{fits_bounds, deeper, measure_leaf, measure_over, Measuring, measuring_start, measuring_skip, measuring_more, measuring_over, measuring_end}
+use Rattle.trie_lister.proofs.Measures.{Measuring}
 use Rattle.trie_lister.proofs.+measure.Given as goal
 
 abbrev pub decreases-measure : goal.decreases-measure

@@ -1,14 +1,12 @@
 use borrow.Author.Rules.{rules}
-use Prim.Native.Nat.{◌≤◌, ◌-◌, ◌+◌}
-use mathlib.Core.Path.{◌≡◌, refl, sym, ◌∙◌}
+use Prim.Native.Nat.{◌-◌}
+use mathlib.Core.Path.{refl, sym, ◌∙◌}
 use native.Mathlib.Omega.{arith}
-use lib.ListN.{length, take, length-set}
-use Rattle.trie.specs.Model.{Trie, size}
-use Rattle.trie.specs.Holds.{Holds}
+use lib.ListN.{take, length-set}
+use Rattle.trie.specs.Model.{size}
 use Rattle.trie.specs.Grow.{child_lt}
-use Rattle.trie_lister.proofs.Writes.{Written, written_start, written_skip, written_more, written_full, written_end, visit_leaf, visiting_level, visiting_child, visiting_room, visiting_down, prefix_next, prefix_kept}
+use Rattle.trie_lister.proofs.Writes.{written_start, written_skip, written_more, written_full, written_end, visit_leaf, visiting_level, visiting_child, visiting_room, visiting_down, prefix_next, prefix_kept}
 use Rattle.trie.specs.Words.{child_gt}
-use Prim.Native.Nat.{ℕ, ◌<◌}
 use Rattle.trie_lister.proofs.+visit.Goals as goal
 
 -- what the callees ask and tell
@@ -26,30 +24,30 @@ returns-then-first-node-eq0-clause-path_unchanged t c = refl
 
 pub returns-then-first-node-eq0-clause-wrote_of : goal.returns-then-first-node-eq0-clause-wrote_of
 returns-then-first-node-eq0-clause-wrote_of t c = λ x h less d deep.
-          visit_leaf x c.args.k d c.args.node c.args.depth c.args.path.now c.args.out.now c.emit.new.out c.args.at c.emit.result deep less (sym (h.firsts c.args.node less) ∙ c.if-first-node-eq0.true) (visiting_level _ _ _ _ _ _ c.requires.visiting) c.emit.ensures
+    visit_leaf x c.args.k d c.args.node c.args.depth c.args.path.now c.args.out.now c.emit.new.out c.args.at c.emit.result deep less (sym (h.firsts c.args.node less) ∙ c.if-first-node-eq0.true) (visiting_level _ _ _ _ _ _ c.requires.visiting) c.emit.ensures
 
 pub loop-a-init : goal.loop-a-init
 loop-a-init t c = (
-      search rules,
-      c.requires.path_len_bound.1,
-      refl,
-      refl,
-      refl,
-      λ x h less d deep. written_start x c.args.k d c.args.node _ _ c.args.at deep less (λ z. c.if-first-node-eq0.false (h.firsts c.args.node less ∙ z)),
-    )
+  search rules,
+  c.requires.path_len_bound.1,
+  refl,
+  refl,
+  refl,
+  λ x h less d deep. written_start x c.args.k d c.args.node _ _ c.args.at deep less (λ z. c.if-first-node-eq0.false (h.firsts c.args.node less ∙ z)),
+)
 
 pub child-j-requires : goal.child-j-requires
 child-j-requires t c = record { trie = c.requires.visiting.trie; holds = c.requires.visiting.holds; below = c.requires.visiting.below }
 
 pub loop-a-preserved-then-j-eq0 : goal.loop-a-preserved-then-j-eq0
 loop-a-preserved-then-j-eq0 t c = (
-      search rules,
-      c.loop-a.invariant.1,
-      c.loop-a.invariant.2,
-      c.loop-a.invariant.3,
-      c.loop-a.invariant.4,
-      λ x h less d deep. written_skip x c.args.k d c.args.node (take c.args.depth c.args.path.now) c.args.out.now c.args.at c.loop-a.a c.loop-a.pos c.loop-a.out (c.loop-a.invariant.5 x h less d deep) _ c.loop-a-test.true (rw c.numbered.ensures at (c.child-j.ensures x h less)) c.if-j-eq0.true,
-    )
+  search rules,
+  c.loop-a.invariant.1,
+  c.loop-a.invariant.2,
+  c.loop-a.invariant.3,
+  c.loop-a.invariant.4,
+  λ x h less d deep. written_skip x c.args.k d c.args.node (take c.args.depth c.args.path.now) c.args.out.now c.args.at c.loop-a.a c.loop-a.pos c.loop-a.out (c.loop-a.invariant.5 x h less d deep) _ c.loop-a-test.true (rw c.numbered.ensures at (c.child-j.ensures x h less)) c.if-j-eq0.true,
+)
 
 pub bounds-path-depth : goal.bounds-path-depth
 bounds-path-depth t c = omega (arith, visiting_room _ _ _ _ _ _ c.requires.visiting _ _ (rw c.numbered.ensures at (c.child-j.ensures c.requires.visiting.trie c.requires.visiting.holds c.requires.visiting.below)) c.if-j-eq0.false, c.loop-a.invariant.2)
@@ -71,29 +69,29 @@ returns-in_default-clause-path_unchanged t c = let in' = visiting_room _ _ _ _ _
 
 pub returns-in_default-clause-wrote_of : goal.returns-in_default-clause-wrote_of
 returns-in_default-clause-wrote_of t c = let in' = visiting_room _ _ _ _ _ _ c.requires.visiting _ _ (rw c.numbered.ensures at (c.child-j.ensures c.requires.visiting.trie c.requires.visiting.holds c.requires.visiting.below)) c.if-j-eq0.false in λ x h less d deep.
-          let e = (rw c.numbered.ensures at (c.child-j.ensures x h less)) in
-          let up = child_gt h.proper c.args.node c.loop-a.a (λ z. c.if-j-eq0.false (e ∙ z)) in
-          written_full x c.args.k d c.args.node (take c.args.depth c.args.path.now) c.args.out.now c.args.at c.loop-a.a c.loop-a.pos c.loop-a.out (c.loop-a.invariant.5 x h less d deep) _ _ _ c.loop-a-test.true e c.if-j-eq0.false c.loop-a.invariant.1 c.requires.path_len_bound.1 c.loop-a.invariant.3
-          (rw (prefix_next c.loop-a.path (take c.args.depth c.args.path.now) c.args.depth c.loop-a.a (omega (arith, in', c.loop-a.invariant.2)) c.loop-a.invariant.4) at (c.visit-below.ensures.wrote_of x h (rw e (child_lt x _ _)) (d - 1) (omega (arith, rw (← e) at up))))
-          c.in_default.is
+    let e = (rw c.numbered.ensures at (c.child-j.ensures x h less)) in
+    let up = child_gt h.proper c.args.node c.loop-a.a (λ z. c.if-j-eq0.false (e ∙ z)) in
+    written_full x c.args.k d c.args.node (take c.args.depth c.args.path.now) c.args.out.now c.args.at c.loop-a.a c.loop-a.pos c.loop-a.out (c.loop-a.invariant.5 x h less d deep) _ _ _ c.loop-a-test.true e c.if-j-eq0.false c.loop-a.invariant.1 c.requires.path_len_bound.1 c.loop-a.invariant.3
+    (rw (prefix_next c.loop-a.path (take c.args.depth c.args.path.now) c.args.depth c.loop-a.a (omega (arith, in', c.loop-a.invariant.2)) c.loop-a.invariant.4) at (c.visit-below.ensures.wrote_of x h (rw e (child_lt x _ _)) (d - 1) (omega (arith, rw (← e) at up))))
+    c.in_default.is
 
 pub loop-a-preserved : goal.loop-a-preserved
 loop-a-preserved t c = let in' = visiting_room _ _ _ _ _ _ c.requires.visiting _ _ (rw c.numbered.ensures at (c.child-j.ensures c.requires.visiting.trie c.requires.visiting.holds c.requires.visiting.below)) c.if-j-eq0.false in (
-      search rules,
-      (let e = (rw c.numbered.ensures at (c.child-j.ensures c.requires.visiting.trie c.requires.visiting.holds c.requires.visiting.below)) in
-          let h = c.visit-below.ensures.wrote_of c.requires.visiting.trie c.requires.visiting.holds (rw e (child_lt c.requires.visiting.trie _ _)) (size c.requires.visiting.trie) (omega arith) in
-          let done = rw c.in-Done.is at h in
-          done.1),
-      c.visit-below.auto.path ∙ simp length-set c.loop-a.invariant.2,
-      c.visit-below.auto.out ∙ c.loop-a.invariant.3,
-      prefix_kept c.loop-a.path c.visit-below.new.path c.args.depth c.loop-a.a c.visit-below.ensures.path_unchanged ∙ c.loop-a.invariant.4,
-      λ x h less d deep.
-          let e = (rw c.numbered.ensures at (c.child-j.ensures x h less)) in
-          let up = child_gt h.proper c.args.node c.loop-a.a (λ z. c.if-j-eq0.false (e ∙ z)) in
-          written_more x c.args.k d c.args.node (take c.args.depth c.args.path.now) c.args.out.now c.args.at c.loop-a.a c.loop-a.pos c.loop-a.out (c.loop-a.invariant.5 x h less d deep) _ _ _ _ c.loop-a-test.true e c.if-j-eq0.false
-          (rw (prefix_next c.loop-a.path (take c.args.depth c.args.path.now) c.args.depth c.loop-a.a (omega (arith, in', c.loop-a.invariant.2)) c.loop-a.invariant.4) at (c.visit-below.ensures.wrote_of x h (rw e (child_lt x _ _)) (d - 1) (omega (arith, rw (← e) at up))))
-          c.in-Done.is,
-    )
+  search rules,
+  (let e = (rw c.numbered.ensures at (c.child-j.ensures c.requires.visiting.trie c.requires.visiting.holds c.requires.visiting.below)) in
+      let h = c.visit-below.ensures.wrote_of c.requires.visiting.trie c.requires.visiting.holds (rw e (child_lt c.requires.visiting.trie _ _)) (size c.requires.visiting.trie) (omega arith) in
+      let done = rw c.in-Done.is at h in
+      done.1),
+  c.visit-below.auto.path ∙ simp length-set c.loop-a.invariant.2,
+  c.visit-below.auto.out ∙ c.loop-a.invariant.3,
+  prefix_kept c.loop-a.path c.visit-below.new.path c.args.depth c.loop-a.a c.visit-below.ensures.path_unchanged ∙ c.loop-a.invariant.4,
+  λ x h less d deep.
+      let e = (rw c.numbered.ensures at (c.child-j.ensures x h less)) in
+      let up = child_gt h.proper c.args.node c.loop-a.a (λ z. c.if-j-eq0.false (e ∙ z)) in
+      written_more x c.args.k d c.args.node (take c.args.depth c.args.path.now) c.args.out.now c.args.at c.loop-a.a c.loop-a.pos c.loop-a.out (c.loop-a.invariant.5 x h less d deep) _ _ _ _ c.loop-a-test.true e c.if-j-eq0.false
+      (rw (prefix_next c.loop-a.path (take c.args.depth c.args.path.now) c.args.depth c.loop-a.a (omega (arith, in', c.loop-a.invariant.2)) c.loop-a.invariant.4) at (c.visit-below.ensures.wrote_of x h (rw e (child_lt x _ _)) (d - 1) (omega (arith, rw (← e) at up))))
+      c.in-Done.is,
+)
 
 pub shape_of-path : goal.shape_of-path
 shape_of-path t c = c.loop-a.invariant.2

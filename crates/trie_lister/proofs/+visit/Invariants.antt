@@ -1,13 +1,9 @@
-use borrow.Author.Rules.{rules}
 use Prim.Native.Nat.{◌≤◌, ◌-◌, ◌+◌}
-use mathlib.Core.Path.{◌≡◌, refl, sym, ◌∙◌}
-use native.Mathlib.Omega.{arith}
-use lib.ListN.{length, take, length-set}
+use mathlib.Core.Path.{◌≡◌}
+use lib.ListN.{length, take}
 use Rattle.trie.specs.Model.{Trie, size}
 use Rattle.trie.specs.Holds.{Holds}
-use Rattle.trie.specs.Grow.{child_lt}
-use Rattle.trie_lister.proofs.Writes.{Written, written_start, written_skip, written_more, written_full, written_end, visit_leaf, visiting_level, visiting_child, visiting_room, visiting_down, prefix_next, prefix_kept}
-use Rattle.trie.specs.Words.{child_gt}
+use Rattle.trie_lister.proofs.Writes.{Written}
 use Prim.Native.Nat.{ℕ, ◌<◌}
 use Rattle.trie_lister.proofs.+visit.Given as goal
 

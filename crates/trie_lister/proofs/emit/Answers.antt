@@ -2,7 +2,6 @@ use mathlib.Core.Path.{◌∙◌}
 use native.Mathlib.Omega.{arith}
 use lib.ListN.{length-set}
 use Rattle.trie_lister.proofs.Writes.{emit_full, emit_done}
-use borrow.Author.Rules.{rules}
 use Rattle.trie_lister.proofs.emit.Goals as goal
 
 pub returns-then-out-at : goal.returns-then-out-at

@@ -1,12 +1,9 @@
 use borrow.Author.Rules.{rules}
-use mathlib.Core.Path.{◌≡◌, refl}
-use Prim.Native.Nat.{◌-◌, ◌≤◌, ◌<◌}
+use mathlib.Core.Path.{refl}
+use Prim.Native.Nat.{◌≤◌, ◌<◌}
 use native.Mathlib.Omega.{arith}
-use lib.ListN.{length, drop}
-use Rattle.rules.specs.Words.{same}
-use Rattle.rules.specs.Machines.{answer_from}
+use lib.ListN.{length}
 use Rattle.reader.specs.Places.{machine_at, word_at}
-use Rattle.walker.proofs.Words.{word-length}
 use Rattle.walker.proofs.Steps.{alike_more, alike_not, alike_end}
 use Rattle.std.proofs.Common.{ap}
 use Rattle.std.specs.Prelude.{not}
@@ -57,8 +54,7 @@ loop-step-smaller c = omega (arith, c.loop-step-test.true)
 pub loop-step-preserved : goal.loop-step-preserved
 loop-step-preserved c = let M = machine_at c.args.bytes.now c.args.table c.args.inputs c.args.states in
     let w = word_at c.args.bytes.now c.args.word in
-    let less : c.loop-step.step < length w = omega (arith, c.loop-step-test.true, c.word_length-n.ensures.0) in
-    (
+    let less : c.loop-step.step < length w = omega (arith, c.loop-step-test.true, c.word_length-n.ensures.0) in (
       omega (arith, c.loop-step-test.true),
       c.golden_next-p.ensures.1,
       c.golden_next-q.ensures.1,

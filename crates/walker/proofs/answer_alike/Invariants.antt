@@ -1,15 +1,9 @@
-use borrow.Author.Rules.{rules}
-use mathlib.Core.Path.{◌≡◌, refl}
+use mathlib.Core.Path.{◌≡◌}
 use Prim.Native.Nat.{◌-◌, ◌≤◌, ◌<◌}
-use native.Mathlib.Omega.{arith}
-use lib.ListN.{length, drop}
+use lib.ListN.{drop}
 use Rattle.rules.specs.Words.{same}
 use Rattle.rules.specs.Machines.{answer_from}
 use Rattle.reader.specs.Places.{machine_at, word_at}
-use Rattle.walker.proofs.Words.{word-length}
-use Rattle.walker.proofs.Steps.{alike_more, alike_not, alike_end}
-use Rattle.std.proofs.Common.{ap}
-use Rattle.std.specs.Prelude.{not}
 use Rattle.walker.proofs.answer_alike.Given as goal
 
 abbrev pub invariant-loop-step : goal.invariant-loop-step

@@ -1,11 +1,9 @@
 use borrow.Author.Rules.{rules}
-use mathlib.Core.Path.{◌≡◌, refl}
-use Prim.Native.Nat.{◌-◌, ◌≤◌, ◌<◌}
+use mathlib.Core.Path.{refl}
+use Prim.Native.Nat.{◌≤◌, ◌<◌}
 use native.Mathlib.Omega.{arith}
-use lib.ListN.{length, drop}
-use Rattle.rules.specs.Machines.{after}
+use lib.ListN.{length}
 use Rattle.reader.specs.Places.{machine_at, word_at}
-use Rattle.walker.proofs.Words.{word-length}
 use Rattle.walker.proofs.Steps.{after_more, after_none}
 use Rattle.walker.proofs.golden_after.Goals as goal
 

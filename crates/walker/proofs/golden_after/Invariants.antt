@@ -1,12 +1,8 @@
-use borrow.Author.Rules.{rules}
-use mathlib.Core.Path.{◌≡◌, refl}
+use mathlib.Core.Path.{◌≡◌}
 use Prim.Native.Nat.{◌-◌, ◌≤◌, ◌<◌}
-use native.Mathlib.Omega.{arith}
-use lib.ListN.{length, drop}
+use lib.ListN.{drop}
 use Rattle.rules.specs.Machines.{after}
 use Rattle.reader.specs.Places.{machine_at, word_at}
-use Rattle.walker.proofs.Words.{word-length}
-use Rattle.walker.proofs.Steps.{after_more, after_none}
 use Rattle.walker.proofs.golden_after.Given as goal
 
 abbrev pub invariant-loop-step : goal.invariant-loop-step

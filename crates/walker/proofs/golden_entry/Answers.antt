@@ -1,5 +1,4 @@
 use Rattle.walker.proofs.Tables.{entry_inside}
-use borrow.Author.Rules.{rules}
 use Rattle.walker.proofs.golden_entry.Goals as goal
 
 pub returns : goal.returns

@@ -1,6 +1,5 @@
 use mathlib.Core.Path.{◌∙◌}
 use Rattle.walker.proofs.Tables.{next_found}
-use borrow.Author.Rules.{rules}
 use Rattle.walker.proofs.golden_next.Goals as goal
 
 pub returns : goal.returns

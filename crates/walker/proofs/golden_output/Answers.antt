@@ -1,6 +1,5 @@
 use mathlib.Core.Path.{◌∙◌}
 use Rattle.walker.proofs.Tables.{output_found}
-use borrow.Author.Rules.{rules}
 use Rattle.walker.proofs.golden_output.Goals as goal
 
 pub returns : goal.returns

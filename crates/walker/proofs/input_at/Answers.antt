@@ -1,4 +1,3 @@
-use borrow.Author.Rules.{rules}
 use mathlib.Core.Path.{◌∙◌}
 use Rattle.walker.proofs.Words.{input_below}
 use Rattle.walker.proofs.input_at.Goals as goal

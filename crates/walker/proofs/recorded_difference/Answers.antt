@@ -1,14 +1,11 @@
 use borrow.Author.Rules.{rules}
-use mathlib.Core.Path.{◌≡◌}
-use Prim.Native.Nat.{◌-◌, ◌≤◌, ◌<◌}
+use Prim.Native.Nat.{◌≤◌, ◌<◌}
 use native.Mathlib.Omega.{arith}
-use lib.ListN.{length, get_or, drop}
-use Rattle.rules.specs.Machines.{answer, answer_from}
+use lib.ListN.{length, get_or}
+use Rattle.rules.specs.Machines.{answer}
 use Rattle.reader.specs.Places.{machine_at, word_at, after_word, outputs_at}
-use Rattle.walker.specs.Walks.{differ_at}
-use Rattle.walker.proofs.Words.{word-length}
 use Rattle.walker.proofs.Tables.{recorded_long}
-use Rattle.walker.proofs.Steps.{differ_from, differ_start, recorded_more, recorded_found, recorded_end}
+use Rattle.walker.proofs.Steps.{differ_start, recorded_more, recorded_found, recorded_end}
 use Rattle.std.proofs.Common.{ap}
 use Rattle.std.specs.Prelude.{not}
 use Rattle.walker.proofs.recorded_difference.Goals as goal
@@ -66,8 +63,7 @@ loop-step-preserved c = let G = machine_at c.args.dossier.now c.args.table c.arg
     let w = word_at c.args.sheet.now c.args.place in
     let o = outputs_at c.args.sheet.now (after_word c.args.sheet.now c.args.place) (get_or c.args.sheet.now c.args.place 0) in
     let long = recorded_long c.args.sheet.now c.args.place (after_word c.args.sheet.now c.args.place) _ c.word_length-n.ensures.1 c.word_length-n.ensures.0 in
-    let less : c.loop-step.step < length w = omega (arith, c.loop-step-test.true, c.word_length-n.ensures.0) in
-    (
+    let less : c.loop-step.step < length w = omega (arith, c.loop-step-test.true, c.word_length-n.ensures.0) in (
       omega (arith, c.loop-step-test.true),
       c.golden_next-g.ensures.1,
       recorded_more G w o c.loop-step.step c.loop-step.g.0 _ long c.loop-step.invariant.2 _ _ less c.input_at-i.ensures.0 c.record_agrees.ensures _ (ap not c.if-not-record_agrees.false) c.golden_next-g.ensures.0,

@@ -1,16 +1,10 @@
-use borrow.Author.Rules.{rules}
 use mathlib.Core.Path.{◌≡◌}
 use Prim.Native.Nat.{◌-◌, ◌≤◌, ◌<◌}
-use native.Mathlib.Omega.{arith}
-use lib.ListN.{length, get_or, drop}
+use lib.ListN.{get_or, drop}
 use Rattle.rules.specs.Machines.{answer, answer_from}
 use Rattle.reader.specs.Places.{machine_at, word_at, after_word, outputs_at}
 use Rattle.walker.specs.Walks.{differ_at}
-use Rattle.walker.proofs.Words.{word-length}
-use Rattle.walker.proofs.Tables.{recorded_long}
-use Rattle.walker.proofs.Steps.{differ_from, differ_start, recorded_more, recorded_found, recorded_end}
-use Rattle.std.proofs.Common.{ap}
-use Rattle.std.specs.Prelude.{not}
+use Rattle.walker.proofs.Steps.{differ_from}
 use Rattle.walker.proofs.recorded_difference.Given as goal
 
 abbrev pub invariant-loop-step : goal.invariant-loop-step

@@ -1,4 +1,3 @@
-use borrow.Author.Rules.{rules}
 use mathlib.Core.Path.{sym, ◌∙◌}
 use Rattle.reader.specs.Places.{after_word}
 use Rattle.walker.proofs.Tables.{outputs_get}

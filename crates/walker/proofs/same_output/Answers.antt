@@ -1,4 +1,3 @@
-use borrow.Author.Rules.{rules}
 use Rattle.walker.proofs.same_output.Goals as goal
 
 pub returns : goal.returns

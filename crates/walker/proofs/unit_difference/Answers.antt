@@ -1,13 +1,10 @@
 use borrow.Author.Rules.{rules}
-use mathlib.Core.Path.{◌≡◌}
-use Prim.Native.Nat.{◌-◌, ◌≤◌, ◌<◌}
+use Prim.Native.Nat.{◌≤◌, ◌<◌}
 use native.Mathlib.Omega.{arith}
-use lib.ListN.{length, drop}
-use Rattle.rules.specs.Machines.{answer, answer_from}
+use lib.ListN.{length}
+use Rattle.rules.specs.Machines.{answer}
 use Rattle.reader.specs.Places.{machine_at, word_at}
-use Rattle.walker.specs.Walks.{differ_at}
-use Rattle.walker.proofs.Words.{word-length}
-use Rattle.walker.proofs.Steps.{differ_from, differ_start, differ_more, differ_found, differ_end}
+use Rattle.walker.proofs.Steps.{differ_start, differ_more, differ_found, differ_end}
 use Rattle.std.proofs.Common.{ap}
 use Rattle.std.specs.Prelude.{not}
 use Rattle.walker.proofs.unit_difference.Goals as goal
@@ -65,8 +62,7 @@ pub loop-step-preserved : goal.loop-step-preserved
 loop-step-preserved c = let G = machine_at c.args.dossier.now c.args.table c.args.inputs c.args.states in
     let U = machine_at c.args.unit.now c.args.utable c.args.inputs c.args.units in
     let w = word_at c.args.dossier.now c.args.word in
-    let less : c.loop-step.step < length w = omega (arith, c.loop-step-test.true, c.word_length-n.ensures.0) in
-    (
+    let less : c.loop-step.step < length w = omega (arith, c.loop-step-test.true, c.word_length-n.ensures.0) in (
       omega (arith, c.loop-step-test.true),
       c.golden_next-g.ensures.1,
       c.unit_next-u.ensures.1,

@@ -1,15 +1,10 @@
-use borrow.Author.Rules.{rules}
 use mathlib.Core.Path.{◌≡◌}
 use Prim.Native.Nat.{◌-◌, ◌≤◌, ◌<◌}
-use native.Mathlib.Omega.{arith}
-use lib.ListN.{length, drop}
+use lib.ListN.{drop}
 use Rattle.rules.specs.Machines.{answer, answer_from}
 use Rattle.reader.specs.Places.{machine_at, word_at}
 use Rattle.walker.specs.Walks.{differ_at}
-use Rattle.walker.proofs.Words.{word-length}
-use Rattle.walker.proofs.Steps.{differ_from, differ_start, differ_more, differ_found, differ_end}
-use Rattle.std.proofs.Common.{ap}
-use Rattle.std.specs.Prelude.{not}
+use Rattle.walker.proofs.Steps.{differ_from}
 use Rattle.walker.proofs.unit_difference.Given as goal
 
 abbrev pub invariant-loop-step : goal.invariant-loop-step

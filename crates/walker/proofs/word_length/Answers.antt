@@ -1,4 +1,3 @@
-use borrow.Author.Rules.{rules}
 use mathlib.Core.Path.{sym, ◌∙◌}
 use Rattle.walker.proofs.Words.{word-length}
 use Rattle.walker.proofs.word_length.Goals as goal

@@ -1,5 +1,4 @@
-use borrow.Author.Rules.{rules}
-use Rattle.walker_lookup.proofs.Lookups.{Ahead, ahead_start, ahead_next, ahead_here}
+use Rattle.walker_lookup.proofs.Lookups.{ahead_start, ahead_next, ahead_here}
 use Rattle.reader.specs.Places.{machine_at, word_at}
 use Prim.Native.Nat.{◌-◌}
 use native.Mathlib.Omega.{arith}

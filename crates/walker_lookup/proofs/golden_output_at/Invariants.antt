@@ -1,8 +1,6 @@
-use borrow.Author.Rules.{rules}
-use Rattle.walker_lookup.proofs.Lookups.{Ahead, ahead_start, ahead_next, ahead_here}
+use Rattle.walker_lookup.proofs.Lookups.{Ahead}
 use Rattle.reader.specs.Places.{machine_at, word_at}
 use Prim.Native.Nat.{◌-◌}
-use native.Mathlib.Omega.{arith}
 use Rattle.walker_lookup.proofs.golden_output_at.Given as goal
 
 abbrev pub invariant-loop-i : goal.invariant-loop-i

@@ -1,9 +1,7 @@
-use mathlib.Core.Path.{◌≡◌, refl, sym, ◌∙◌}
-use Prim.Native.Nat.{◌-◌, ◌≤◌}
+use mathlib.Core.Path.{refl, sym, ◌∙◌}
+use Prim.Native.Nat.{◌-◌}
 use native.Mathlib.Omega.{arith}
 use borrow.Author.Rules.{rules}
-use lib.ListN.{drop}
-use Rattle.rules.specs.Words.{same}
 use Rattle.reader.specs.Places.{word_at}
 use Rattle.walker_lookup.proofs.Alike.{other_lengths, alike_end, alike_next, alike_not}
 use Rattle.walker_lookup.proofs.same_word.Goals as goal

@@ -1,4 +1,4 @@
-use Rattle.walker_lookup.proofs.Lookups.{Passing, passing_start, passing_word, passing_next, passing_here}
+use Rattle.walker_lookup.proofs.Lookups.{passing_start, passing_word, passing_next, passing_here}
 use Prim.Native.Nat.{◌-◌}
 use native.Mathlib.Omega.{arith}
 use Rattle.walker_lookup.proofs.word_place.Goals as goal

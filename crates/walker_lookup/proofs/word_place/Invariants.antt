@@ -1,6 +1,5 @@
-use Rattle.walker_lookup.proofs.Lookups.{Passing, passing_start, passing_word, passing_next, passing_here}
+use Rattle.walker_lookup.proofs.Lookups.{Passing}
 use Prim.Native.Nat.{◌-◌}
-use native.Mathlib.Omega.{arith}
 use Rattle.walker_lookup.proofs.word_place.Given as goal
 
 abbrev pub invariant-loop-i : goal.invariant-loop-i

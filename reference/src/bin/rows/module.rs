@@ -8,53 +8,52 @@ const ROWS_OF_A_TABLE: usize = 100;
 /// What the rows are written with.
 const HEAD: &str = "\
 -- What the definitions answer on small files, as the second program has it.
-use Prim.Native.Nat.{ℕ}
-use mathlib.Core.Path.{_≡_, refl}
-use mathlib.Core.List.{List, [], _∷_, flatMap}
-use Rattle·rules.specs.Words.{wordsOf, shortlex}
-use Rattle·rules.specs.Files.{countBytes, outputBytes, entryBytes, tableBytes, wordBytes, wordsBytes, frontBytes, dossierBytes, unitBytes}
-use Rattle·rules.specs.Reading.{byte, judged, count, many, word, words, output, entry, table, sheetRecord, ending, dossier, unitTable, sheet}
-use Rattle·rules.specs.Needed.{middles, needed, unreached, pairs, unseparated, missing, maximalOf, builtTests}
-use Rattle·rules.specs.Answers.{Said, checkSays, buildSays, runSays, compareSays, judgeSays, costSays, findSays, importSays}
-use Rattle·rules.specs.Operations.{Part, readFile, sound, enough, check, checkAnswer, build, buildAnswer, buildOutput, run, runAnswer, telling, compare, compareAnswer, compareOutput, repeated, foreign, absent, pair, judge, judgeAnswer, testPart, judgedPart, costAnswer}
-use Rattle·rules.specs.Find.{accessWord, tellingWord, unreachable, untold, foundCover, foundSeparating, find, findAnswer, findOutput}
-use Rattle·rules.specs.Kiss2.{linesOf, fieldsOf, lineSays, opened, outputValue, readLines, isWhole, stateNames, silent, unitSaid, readKiss2, readKiss2Answer, readKiss2Output}
-use Rattle·rules.specs.Line.{decimal, runLine}
+use Rattle.std.specs.Prelude.{ℕ, ◌≡◌, refl}
+use mathlib.Core.List.{List, [], ◌∷◌, flat_map}
+use Rattle.rules.specs.Words.{words_of, shortlex}
+use Rattle.rules.specs.Files.{count_bytes, output_bytes, entry_bytes, table_bytes, word_bytes, words_bytes, front_bytes, dossier_bytes, unit_bytes}
+use Rattle.rules.specs.Reading.{byte, judged, count, many, word, words, output, entry, table, sheet_record, ending, dossier, unit_table, sheet}
+use Rattle.rules.specs.Needed.{middles, needed, unreached, pairs, unseparated, missing, maximal_of, built_tests}
+use Rattle.rules.specs.Answers.{Said, check_says, build_says, run_says, compare_says, judge_says, cost_says, find_says, import_says}
+use Rattle.rules.specs.Operations.{Part, read_file, sound, enough, check, check_answer, build, build_answer, build_output, run, run_answer, telling, compare, compare_answer, compare_output, repeated, foreign, absent, pair, judge, judge_answer, test_part, judged_part, cost_answer}
+use Rattle.rules.specs.Find.{access_word, telling_word, unreachable, untold, found_cover, found_separating, find, find_answer, find_output}
+use Rattle.rules.specs.Kiss2.{lines_of, fields_of, line_says, opened, output_value, read_lines, is_whole, state_names, silent, unit_said, read_kiss2, read_kiss2_answer, read_kiss2_output}
+use Rattle.rules.specs.Line.{decimal, run_line}
 
 abbrev says : ℕ → ℕ → List ℕ → Said
 says number file values = record { number = number; file = file; values = values }
 
-abbrev partAt : ℕ → ℕ → Part
-partAt place size = record { place = place; size = size }
+abbrev part_at : ℕ → ℕ → Part
+part_at place size = record { place = place; size = size }
 
 abbrev Checks : List ℕ → Said → Type 0
-Checks bytes r = checkSays (checkAnswer bytes) ≡ r
+Checks bytes r = check_says (check_answer bytes) ≡ r
 
 -- `left` is what the output holds afterwards
 abbrev Builds : List ℕ → List ℕ → Said → List ℕ → Type 0
-Builds bytes out r left = (buildSays (buildAnswer bytes out) ≡ r) × (buildOutput bytes out ≡ left)
+Builds bytes out r left = (build_says (build_answer bytes out) ≡ r) × (build_output bytes out ≡ left)
 
 abbrev Runs : List ℕ → List ℕ → Said → List ℕ → Type 0
-Runs bytes other r line = (runSays (runAnswer bytes other) ≡ r) × (runLine bytes other ≡ line)
+Runs bytes other r line = (run_says (run_answer bytes other) ≡ r) × (run_line bytes other ≡ line)
 
 abbrev Compares : List ℕ → List ℕ → List ℕ → Said → List ℕ → Type 0
-Compares bytes other out r left = (compareSays (compareAnswer bytes other out) ≡ r) × (compareOutput bytes other out ≡ left)
+Compares bytes other out r left = (compare_says (compare_answer bytes other out) ≡ r) × (compare_output bytes other out ≡ left)
 
 abbrev Judges : List ℕ → List ℕ → Said → Part → Type 0
-Judges bytes other r part = (judgeSays (judgeAnswer bytes other) ≡ r) × (judgedPart bytes other ≡ part)
+Judges bytes other r part = (judge_says (judge_answer bytes other) ≡ r) × (judged_part bytes other ≡ part)
 
 abbrev Costs : List ℕ → Said → Type 0
-Costs bytes r = costSays (costAnswer bytes) ≡ r
+Costs bytes r = cost_says (cost_answer bytes) ≡ r
 
 abbrev Finds : List ℕ → ℕ → List ℕ → Said → List ℕ → Type 0
-Finds bytes bound out r left = (findSays (findAnswer bytes bound out) ≡ r) × (findOutput bytes bound out ≡ left)
+Finds bytes bound out r left = (find_says (find_answer bytes bound out) ≡ r) × (find_output bytes bound out ≡ left)
 
 abbrev Imports : List ℕ → List ℕ → Said → List ℕ → Type 0
-Imports text out r left = (importSays (readKiss2Answer text out) ≡ r) × (readKiss2Output text out ≡ left)
+Imports text out r left = (import_says (read_kiss2_answer text out) ≡ r) × (read_kiss2_output text out ≡ left)
 ";
 
 /// The definitions that the prover computes with, as in the rules' own table of worked pieces.
-const UNFOLDING: &str = "unfolding flatMap wordsOf shortlex countBytes outputBytes entryBytes tableBytes wordBytes wordsBytes frontBytes dossierBytes unitBytes byte judged count many word words output entry table sheetRecord ending dossier unitTable sheet middles needed unreached pairs unseparated missing maximalOf builtTests readFile sound enough check build run telling compare accessWord tellingWord unreachable untold foundCover foundSeparating find linesOf fieldsOf lineSays opened outputValue readLines isWhole stateNames silent unitSaid readKiss2 repeated foreign absent pair judge testPart decimal runLine";
+const UNFOLDING: &str = "unfolding flat_map words_of shortlex count_bytes output_bytes entry_bytes table_bytes word_bytes words_bytes front_bytes dossier_bytes unit_bytes byte judged count many word words output entry table sheet_record ending dossier unit_table sheet middles needed unreached pairs unseparated missing maximal_of built_tests read_file sound enough check build run telling compare access_word telling_word unreachable untold found_cover found_separating find lines_of fields_of line_says opened output_value read_lines is_whole state_names silent unit_said read_kiss2 repeated foreign absent pair judge test_part decimal run_line";
 
 /// The rows in tables, each with its proof.
 pub fn module(rows: &[Row]) -> String {

@@ -91,7 +91,7 @@ fn judges(case: &Case) -> Stated {
         Ok(JudgeAnswer::Deviates { word, .. }) => word.clone(),
         Ok(JudgeAnswer::Agrees) | Err(_) => 0..0,
     };
-    let part = format!("(partAt {} {})", part.start, part.len());
+    let part = format!("(part_at {} {})", part.start, part.len());
     let answer = said(judged);
     let files = lists([&case.dossier, &case.sheet]);
     let statement = format!("Judges {files} {} {part}", says(&answer));

@@ -1,6 +1,5 @@
 use native.Mathlib.Omega.{arith}
 use Rattle.builder.proofs.Promised.{buildable, refused_promise}
-use borrow.Author.Rules.{rules}
 use Rattle.builder.proofs.answer.build.Goals as goal
 
 pub build_sound-requires : goal.build_sound-requires

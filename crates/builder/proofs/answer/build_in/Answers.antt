@@ -1,6 +1,5 @@
 use Rattle.builder_copyist.proofs.Fitted.{planted, full_over}
 use Rattle.builder_copyist.proofs.Promised.{over_promise}
-use borrow.Author.Rules.{rules}
 use Rattle.builder.proofs.answer.build_in.Goals as goal
 
 pub grow_needed-requires-clause-lent : goal.grow_needed-requires-clause-lent

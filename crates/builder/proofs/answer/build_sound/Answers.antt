@@ -1,5 +1,4 @@
 use mathlib.Core.Path.{sym}
-use borrow.Author.Rules.{rules}
 use Rattle.builder.proofs.answer.build_sound.Goals as goal
 
 pub build_in-requires-clause-buildable : goal.build_in-requires-clause-buildable

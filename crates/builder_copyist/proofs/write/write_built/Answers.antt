@@ -1,7 +1,6 @@
 use mathlib.Core.Path.{refl}
 use native.Mathlib.Omega.{arith}
 use Rattle.builder_copyist.proofs.Fitted.{deep_enough, front_room, built_written}
-use borrow.Author.Rules.{rules}
 use Rattle.builder_copyist.proofs.write.write_built.Goals as goal
 
 pub write_front-requires : goal.write_front-requires

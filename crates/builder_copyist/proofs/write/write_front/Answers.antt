@@ -1,5 +1,4 @@
 use Rattle.builder_copyist.proofs.Writing.{front_written}
-use borrow.Author.Rules.{rules}
 use Rattle.builder_copyist.proofs.write.write_front.Goals as goal
 
 pub returns : goal.returns

@@ -1,9 +1,7 @@
 use native.Mathlib.Omega.{arith}
 use mathlib.Core.Path.{refl, sym, ◌∙◌}
-use borrow.Author.Rules.{rules}
 use Rattle.trie.specs.Grow.{size_pos}
 use Rattle.builder_grower.proofs.Covering.{cover_full, cover_ready, cover_grows}
-use borrow.Author.Rules.{rules}
 use Rattle.builder_grower.proofs.cover.grow_cover.Goals as goal
 
 pub put_word-put-requires-clause-whole : goal.put_word-put-requires-clause-whole

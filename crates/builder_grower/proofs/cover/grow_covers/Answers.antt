@@ -1,11 +1,7 @@
 use native.Mathlib.Omega.{arith}
-use mathlib.Core.Path.{◌≡◌, refl, sym, ◌∙◌}
-use borrow.Author.Rules.{rules}
-use lib.ListN.{length}
-use Rattle.reader.specs.Places.{words_at, WordsAt}
+use mathlib.Core.Path.{refl, sym, ◌∙◌}
 use Rattle.reader.specs.Turns.{word_turn, word_room, words_after}
-use Rattle.builder_branches.specs.Growing.{Separator}
-use Rattle.builder_grower.proofs.Covering.{Covering, covering_start, covering_ready, covering_full, covering_next, grown_full, grown_nodes, listed_separators}
+use Rattle.builder_grower.proofs.Covering.{covering_start, covering_ready, covering_full, covering_next, grown_full, grown_nodes, listed_separators}
 use Rattle.soundness.proofs.Sized.{bound_near}
 use Rattle.builder_grower.proofs.cover.grow_covers.Goals as goal
 

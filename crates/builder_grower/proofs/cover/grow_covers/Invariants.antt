@@ -1,12 +1,8 @@
-use native.Mathlib.Omega.{arith}
-use mathlib.Core.Path.{◌≡◌, refl, sym, ◌∙◌}
-use borrow.Author.Rules.{rules}
+use mathlib.Core.Path.{◌≡◌}
 use lib.ListN.{length}
 use Rattle.reader.specs.Places.{words_at, WordsAt}
-use Rattle.reader.specs.Turns.{word_turn, word_room, words_after}
 use Rattle.builder_branches.specs.Growing.{Separator}
-use Rattle.builder_grower.proofs.Covering.{Covering, covering_start, covering_ready, covering_full, covering_next, grown_full, grown_nodes, listed_separators}
-use Rattle.soundness.proofs.Sized.{bound_near}
+use Rattle.builder_grower.proofs.Covering.{Covering}
 use Rattle.builder_grower.proofs.cover.grow_covers.Given as goal
 
 abbrev pub invariant-loop-rest : goal.invariant-loop-rest

@@ -2,7 +2,6 @@ use native.Mathlib.Omega.{arith}
 use mathlib.Core.Path.{refl, sym, ◌∙◌}
 use Rattle.trie_filing.proofs.Filling.{words_room}
 use Rattle.builder_grower.proofs.Covering.{grown_none, listed_firsts}
-use borrow.Author.Rules.{rules}
 use Rattle.builder_grower.proofs.cover.grow_needed.Goals as goal
 
 pub put_words-requires-clause-words_at : goal.put_words-requires-clause-words_at

@@ -1,6 +1,5 @@
 use Rattle.line_writer.proofs.Lines.{first_closes}
 use Rattle.line.proofs.Given.{line_given}
-use borrow.Author.Rules.{rules}
 use Rattle.bureau_lines.proofs.plain.number_line.Goals as goal
 
 pub returns : goal.returns

@@ -1,5 +1,4 @@
 use Rattle.checker.proofs.Accepting.{sound_lent, check_refused, check_held, check_found}
-use borrow.Author.Rules.{rules}
 use Rattle.checker.proofs.answer.accept.Goals as goal
 
 pub find_lacking-requires-clause-lent : goal.find_lacking-requires-clause-lent

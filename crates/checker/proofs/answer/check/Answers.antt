@@ -1,5 +1,4 @@
 use Rattle.checker.proofs.Accepting.{says_accepted, says_refused}
-use borrow.Author.Rules.{rules}
 use Rattle.checker.proofs.answer.check.Goals as goal
 
 pub returns-in-Holds : goal.returns-in-Holds

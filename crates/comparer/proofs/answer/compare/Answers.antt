@@ -1,5 +1,4 @@
 use Rattle.comparer.proofs.Answering.{malformed, malformed_unit, both_stand}
-use borrow.Author.Rules.{rules}
 use Rattle.comparer.proofs.answer.compare.Goals as goal
 
 pub compare_read-requires : goal.compare_read-requires

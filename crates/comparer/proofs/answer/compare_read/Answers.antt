@@ -1,5 +1,4 @@
 use Rattle.comparer.proofs.Answering.{other_inputs, sides_at, first_answers}
-use borrow.Author.Rules.{rules}
 use Rattle.comparer.proofs.answer.compare_read.Goals as goal
 
 pub returns-then-inputs-y : goal.returns-then-inputs-y

@@ -1,7 +1,6 @@
 use mathlib.Core.Path.{sym, ◌∙◌}
 use Rattle.comparer_pairs.specs.Pairs.{golden_at, unit_at}
 use Rattle.comparer.proofs.Answering.{found_at, answers_nowhere, answers_at}
-use borrow.Author.Rules.{rules}
 use Rattle.comparer.proofs.answer.compare_sides.Goals as goal
 
 pub write_telling-requires : goal.write_telling-requires

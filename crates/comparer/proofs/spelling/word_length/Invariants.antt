@@ -1,9 +1,7 @@
-use native.Mathlib.Omega.{arith}
 use Prim.Native.Nat.{◌+◌, ◌≤◌}
 use mathlib.Core.Path.{◌≡◌}
 use lib.ListN.{length}
 use Rattle.comparer_pairs.specs.Queue.{word_to}
-use Rattle.comparer.proofs.Backwards.{back_less, back_length, back_short, back_start}
 use Rattle.comparer.proofs.spelling.word_length.Given as goal
 
 abbrev pub invariant-loop-at : goal.invariant-loop-at

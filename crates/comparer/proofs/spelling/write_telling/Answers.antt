@@ -3,7 +3,6 @@ use mathlib.Core.Path.{◌∙◌}
 use lib.ListN.{length-set}
 use Rattle.comparer_pairs.specs.Queue.{word_to}
 use Rattle.comparer.proofs.Backwards.{answers_no_room, answers_written}
-use borrow.Author.Rules.{rules}
 use Rattle.comparer.proofs.spelling.write_telling.Goals as goal
 
 pub returns-then-out-len : goal.returns-then-out-len

@@ -1,10 +1,6 @@
 use native.Mathlib.Omega.{arith}
-use borrow.Author.Rules.{rules}
-use Prim.Native.Nat.{◌≤◌}
-use mathlib.Core.Path.{◌≡◌, refl, ◌∙◌}
-use lib.ListN.{length, length-set}
-use Rattle.rules.specs.Operations.{overwritten}
-use Rattle.comparer_pairs.specs.Queue.{word_to}
+use mathlib.Core.Path.{refl, ◌∙◌}
+use lib.ListN.{length-set}
 use Rattle.comparer.proofs.Backwards.{back_less, back_length, back_written, back_start}
 use Rattle.comparer.proofs.spelling.write_word.Goals as goal
 

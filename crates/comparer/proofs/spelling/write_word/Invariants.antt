@@ -1,11 +1,8 @@
-use native.Mathlib.Omega.{arith}
-use borrow.Author.Rules.{rules}
 use Prim.Native.Nat.{◌≤◌}
-use mathlib.Core.Path.{◌≡◌, refl, ◌∙◌}
-use lib.ListN.{length, length-set}
+use mathlib.Core.Path.{◌≡◌}
+use lib.ListN.{length}
 use Rattle.rules.specs.Operations.{overwritten}
 use Rattle.comparer_pairs.specs.Queue.{word_to}
-use Rattle.comparer.proofs.Backwards.{back_less, back_length, back_written, back_start}
 use Rattle.comparer.proofs.spelling.write_word.Given as goal
 
 abbrev pub invariant-loop-at : goal.invariant-loop-at

@@ -1,6 +1,5 @@
 use mathlib.Core.Path.{refl}
 use Rattle.comparer_pairs.specs.Marks.{met}
-use borrow.Author.Rules.{rules}
 use Rattle.comparer_pairs.proofs.marks.is_met.Goals as goal
 
 pub returns : goal.returns

@@ -1,6 +1,5 @@
 use mathlib.Core.Path.{refl}
 use Rattle.comparer_pairs.specs.Marks.{with_mark}
-use borrow.Author.Rules.{rules}
 use Rattle.comparer_pairs.proofs.marks.meet.Goals as goal
 
 pub returns : goal.returns

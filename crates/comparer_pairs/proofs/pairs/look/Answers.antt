@@ -1,7 +1,6 @@
 use mathlib.Core.Path.{refl}
 use Rattle.comparer_pairs.specs.Pairs.{golden_at, unit_at}
 use Rattle.comparer_pairs.proofs.Looks.{look_apart, look_next}
-use borrow.Author.Rules.{rules}
 use Rattle.std.proofs.Common.{ap}
 use Rattle.std.specs.Prelude.{not}
 use Rattle.comparer_pairs.proofs.pairs.look.Goals as goal

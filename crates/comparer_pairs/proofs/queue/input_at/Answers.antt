@@ -1,6 +1,5 @@
 use mathlib.Core.Path.{◌∙◌}
 use Rattle.comparer_pairs.specs.Queue.{input_at, step_at}
-use borrow.Author.Rules.{rules}
 use Rattle.comparer_pairs.proofs.queue.input_at.Goals as goal
 
 pub returns : goal.returns

@@ -1,7 +1,6 @@
 use native.Mathlib.Omega.{arith}
 use Rattle.comparer_pairs.specs.Queue.{pair_at}
 use native.Mathlib.Nat.{mod-lt}
-use borrow.Author.Rules.{rules}
 use Rattle.comparer_pairs.proofs.queue.pair_at.Goals as goal
 
 pub returns : goal.returns

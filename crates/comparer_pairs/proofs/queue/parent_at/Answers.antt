@@ -1,5 +1,4 @@
 use Rattle.comparer_pairs.specs.Queue.{parent_at, step_at}
-use borrow.Author.Rules.{rules}
 use Rattle.comparer_pairs.proofs.queue.parent_at.Goals as goal
 
 pub returns : goal.returns

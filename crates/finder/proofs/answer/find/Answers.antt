@@ -1,6 +1,5 @@
 use native.Mathlib.Omega.{arith}
 use Rattle.finder.proofs.Finding.{given, malformed}
-use borrow.Author.Rules.{rules}
 use Rattle.finder.proofs.answer.find.Goals as goal
 
 pub find_given-requires : goal.find_given-requires

@@ -1,7 +1,6 @@
 use mathlib.Core.Path.{sym}
 use Rattle.reader.specs.Standing.{unit_at_lem}
 use Rattle.finder.proofs.Finding.{fault_none, fault_refuses}
-use borrow.Author.Rules.{rules}
 use Rattle.finder.proofs.answer.find_bounded.Goals as goal
 
 pub reach_states-requires-clause-unit_at : goal.reach_states-requires-clause-unit_at

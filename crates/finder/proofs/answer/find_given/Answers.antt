@@ -1,5 +1,4 @@
 use Rattle.finder.proofs.Finding.{bad_bound, bounded}
-use borrow.Author.Rules.{rules}
 use Rattle.std.proofs.Common.{ap}
 use Rattle.std.specs.Prelude.{not}
 use Rattle.finder.proofs.answer.find_given.Goals as goal

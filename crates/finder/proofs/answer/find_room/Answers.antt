@@ -1,6 +1,5 @@
 use native.Mathlib.Omega.{arith}
 use Rattle.finder.proofs.Laying.{size_small, fitting, no_room_answer, written_answer}
-use borrow.Author.Rules.{rules}
 use Rattle.finder.proofs.answer.find_room.Goals as goal
 
 pub overflow_add-size-3 : goal.overflow_add-size-3

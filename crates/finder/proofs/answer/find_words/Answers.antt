@@ -1,7 +1,6 @@
 use mathlib.Core.Path.{sym}
 use Rattle.reader.specs.Standing.{unit_at_lem}
 use Rattle.finder.proofs.Finding.{all_told}
-use borrow.Author.Rules.{rules}
 use Rattle.finder.proofs.answer.find_words.Goals as goal
 
 pub find_separators-count-requires-clause-unit_at : goal.find_separators-count-requires-clause-unit_at

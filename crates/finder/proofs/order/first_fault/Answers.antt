@@ -1,5 +1,4 @@
 use Rattle.finder.proofs.Finding.{state_first, pair_second, neither}
-use borrow.Author.Rules.{rules}
 use Rattle.finder.proofs.order.first_fault.Goals as goal
 
 pub returns-in-At : goal.returns-in-At

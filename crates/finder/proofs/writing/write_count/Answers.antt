@@ -1,7 +1,6 @@
 use native.Mathlib.Omega.{arith}
 use lib.ListN.{length-set}
 use Rattle.finder.proofs.Sections.{count_written}
-use borrow.Author.Rules.{rules}
 use Rattle.finder.proofs.writing.write_count.Goals as goal
 
 pub bounds-out-at-2 : goal.bounds-out-at-2

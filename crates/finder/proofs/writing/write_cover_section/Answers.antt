@@ -1,7 +1,6 @@
 use native.Mathlib.Omega.{arith}
 use mathlib.Core.Path.{refl}
 use Rattle.finder.proofs.Sections.{cover_count, cover_counted, cover_fits, section_written}
-use borrow.Author.Rules.{rules}
 use Rattle.finder.proofs.writing.write_cover_section.Goals as goal
 
 pub write_count-next-requires : goal.write_count-next-requires

@@ -1,7 +1,6 @@
 use native.Mathlib.Omega.{arith}
 use mathlib.Core.Path.{refl}
 use Rattle.finder.proofs.Laying.{numbers_room, table_room, cover_room, separating_room, tests_room, all_written}
-use borrow.Author.Rules.{rules}
 use Rattle.finder.proofs.writing.write_draft.Goals as goal
 
 pub write_numbers-table-requires : goal.write_numbers-table-requires

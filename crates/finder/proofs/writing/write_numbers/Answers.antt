@@ -1,7 +1,6 @@
 use native.Mathlib.Omega.{arith}
 use lib.ListN.{length-set}
 use Rattle.finder.proofs.Sections.{numbers_at, numbers_written}
-use borrow.Author.Rules.{rules}
 use Rattle.finder.proofs.writing.write_numbers.Goals as goal
 
 pub bounds-out-at : goal.bounds-out-at

@@ -3,7 +3,6 @@ use mathlib.Core.Path.{sym}
 use Rattle.finder_separators.specs.Kept.{words_from}
 use Rattle.finder_separators.proofs.Keeping.{from_count}
 use Rattle.finder.proofs.Sections.{words_long, section_room, section_written}
-use borrow.Author.Rules.{rules}
 use Rattle.finder.proofs.writing.write_separating_section.Goals as goal
 
 pub write_count-next-requires : goal.write_count-next-requires

@@ -1,7 +1,6 @@
 use mathlib.Core.Path.{sym}
 use lib.ListN.{length-drop}
 use Rattle.finder.proofs.Sections.{wrote_copy}
-use borrow.Author.Rules.{rules}
 use Rattle.finder.proofs.writing.write_table.Goals as goal
 
 pub returns : goal.returns

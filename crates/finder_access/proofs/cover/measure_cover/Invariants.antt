@@ -1,14 +1,12 @@
 use Prim.Native.Nat.{◌+◌, ◌*◌, ◌-◌, ◌≤◌}
-use mathlib.Core.Path.{◌≡◌, ap}
+use mathlib.Core.Path.{◌≡◌}
 use mathlib.Core.List.{flat_map}
-use native.Mathlib.Omega.{arith}
-use borrow.Author.Rules.{rules}
 use lib.ListN.{length}
 use Rattle.rules.specs.Sizes.{most_states}
 use Rattle.rules.specs.Files.{UnitData, word_bytes}
 use Rattle.rules.specs.Find.{found_cover}
-use Rattle.finder_access.specs.Reached.{Reaches, word_to}
-use Rattle.finder_access.proofs.Covering.{bytes_from, cover_start, cover_end, cover_longer}
+use Rattle.finder_access.specs.Reached.{Reaches}
+use Rattle.finder_access.proofs.Covering.{bytes_from}
 use Rattle.finder_access.proofs.cover.measure_cover.Given as goal
 
 abbrev pub invariant-loop-q : goal.invariant-loop-q

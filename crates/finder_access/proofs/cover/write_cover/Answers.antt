@@ -1,16 +1,12 @@
-use Prim.Native.Nat.{◌+◌, ◌-◌, ◌≤◌}
-use mathlib.Core.Path.{◌≡◌, refl, ap, ◌∙◌}
-use mathlib.Core.List.{flat_map}
+use Prim.Native.Nat.{◌-◌}
+use mathlib.Core.Path.{refl, ap, ◌∙◌}
 use native.Mathlib.Omega.{arith}
-use borrow.Author.Rules.{rules}
 use lib.ListN.{length}
-use Rattle.rules.specs.Files.{UnitData, word_bytes}
-use Rattle.rules.specs.Find.{found_cover}
-use lib.Seq.{sets}
+use Rattle.rules.specs.Files.{word_bytes}
 use Rattle.theory.specs.Wrote.{Wrote}
-use Rattle.finder_access.specs.Reached.{Reaches, word_to}
+use Rattle.finder_access.specs.Reached.{word_to}
 use Rattle.finder_access.proofs.Backwards.{word_bytes_length}
-use Rattle.finder_access.proofs.Covering.{bytes_from, cover_start, cover_end, cover_longer, cover_written}
+use Rattle.finder_access.proofs.Covering.{cover_start, cover_end, cover_longer, cover_written}
 use Rattle.finder_access.proofs.cover.write_cover.Goals as goal
 
 pub loop-q-init : goal.loop-q-init

@@ -1,6 +1,5 @@
 use mathlib.Core.Path.{◌∙◌}
 use Rattle.finder_access.specs.Queue.{input_at, step_at}
-use borrow.Author.Rules.{rules}
 use Rattle.finder_access.proofs.queue.input_at.Goals as goal
 
 pub returns : goal.returns

@@ -1,5 +1,4 @@
 use Rattle.finder_access.specs.Queue.{parent_at, step_at}
-use borrow.Author.Rules.{rules}
 use Rattle.finder_access.proofs.queue.parent_at.Goals as goal
 
 pub returns : goal.returns

@@ -1,7 +1,6 @@
 use Rattle.finder_access.proofs.Queueing.{looked}
 use mathlib.Core.Path.{◌∙◌}
 use native.Mathlib.Omega.{arith}
-use borrow.Author.Rules.{rules}
 use Rattle.finder_access.proofs.queue.place_of.Goals as goal
 
 pub returns-then-after-eq0 : goal.returns-then-after-eq0

@@ -1,6 +1,5 @@
 use mathlib.Core.Path.{◌∙◌}
 use Rattle.finder_access.specs.Queue.{state_at}
-use borrow.Author.Rules.{rules}
 use Rattle.finder_access.proofs.queue.state_at.Goals as goal
 
 pub returns : goal.returns

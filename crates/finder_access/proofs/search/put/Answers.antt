@@ -2,7 +2,6 @@ use Rattle.theory.specs.Breadth.{step_of}
 use mathlib.Core.Path.{◌∙◌}
 use native.Mathlib.Omega.{arith}
 use Rattle.finder_access.proofs.Searching.{put_free, put_kept, put_queued}
-use borrow.Author.Rules.{rules}
 use Rattle.finder_access.proofs.search.put.Goals as goal
 
 pub returns-then-places-number-ne0 : goal.returns-then-places-number-ne0

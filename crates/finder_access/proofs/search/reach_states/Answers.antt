@@ -1,11 +1,8 @@
 use Prim.Native.Nat.{◌-◌, ◌≤◌}
-use mathlib.Core.Path.{◌≡◌, refl, ap, ◌∙◌}
+use mathlib.Core.Path.{refl, ap, ◌∙◌}
 use native.Mathlib.Omega.{arith}
 use lib.ListN.{length, length-set}
-use Rattle.rules.specs.Sizes.{most_states}
-use Rattle.theory.specs.Breadth.{step_of}
 use Rattle.reader.specs.Standing.{unit_in}
-use Rattle.finder_access.specs.Search.{Searching}
 use Rattle.finder_access.proofs.Searching.{unplaced-length, unit_complete, search_start, search_done, search_counted}
 use Rattle.finder_access.proofs.search.reach_states.Goals as goal
 

@@ -1,11 +1,7 @@
-use Prim.Native.Nat.{◌+◌, ◌-◌, ◌≤◌, ◌<◌}
+use Prim.Native.Nat.{◌+◌, ◌-◌}
 use mathlib.Core.Path.{◌≡◌, refl, ◌∙◌}
 use native.Mathlib.Omega.{arith}
-use borrow.Author.Rules.{rules}
-use lib.ListN.{length}
-use Rattle.theory.specs.Breadth.{step_of}
 use Rattle.reader.specs.Standing.{unit_in}
-use Rattle.finder_access.specs.Search.{Searching}
 use Rattle.finder_access.proofs.Searching.{unit_complete, search_entry}
 use Rattle.finder_access.proofs.search.try_entry.Goals as goal
 

@@ -3,7 +3,6 @@ use native.Mathlib.Omega.{arith}
 use Rattle.rules.specs.Files.{unit}
 use Rattle.reader.specs.Standing.{unit_in}
 use Rattle.finder_access.proofs.Searching.{unit_complete, state_small, put_room, search_put}
-use borrow.Author.Rules.{rules}
 use Rattle.finder_access.proofs.search.try_input.Goals as goal
 
 pub golden_next-next-requires-clause-table_at : goal.golden_next-next-requires-clause-table_at

@@ -1,14 +1,9 @@
-use Prim.Native.Nat.{◌≤◌, ◌-◌}
-use mathlib.Core.Path.{◌≡◌, sym, ap, ◌∙◌}
+use Prim.Native.Nat.{◌-◌}
+use mathlib.Core.Path.{sym, ap, ◌∙◌}
 use native.Mathlib.Omega.{arith}
-use borrow.Author.Rules.{rules}
-use Rattle.rules.specs.Lists.{first, numbers_from}
-use Rattle.rules.specs.Files.{UnitData}
-use Rattle.rules.specs.Find.{unreachable}
 use Rattle.soundness_reach.specs.Reached.{state_found}
 use Rattle.soundness_reach.proofs.Marks.{state_found_lem}
-use Rattle.finder_access.specs.Reached.{Marks}
-use Rattle.finder_access.proofs.Covering.{lacking, lowest_lacking, lacks_here, lacks_later, lacks_none}
+use Rattle.finder_access.proofs.Covering.{lowest_lacking, lacks_here, lacks_later, lacks_none}
 use Rattle.finder_access.proofs.search.unreached.Goals as goal
 
 pub loop-q-init : goal.loop-q-init

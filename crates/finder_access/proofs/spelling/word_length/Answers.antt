@@ -1,9 +1,6 @@
-use Prim.Native.Nat.{ℕ, ◌+◌, ◌≤◌}
-use mathlib.Core.Path.{◌≡◌, ap}
+use mathlib.Core.Path.{ap}
 use native.Mathlib.Omega.{arith}
 use lib.ListN.{length}
-use Rattle.rules.specs.Words.{Word}
-use Rattle.finder_access.specs.Queue.{Spelt}
 use Rattle.finder_access.proofs.Backwards.{back_less, back_length, back_start}
 use Rattle.finder_access.proofs.spelling.word_length.Goals as goal
 

@@ -1,11 +1,6 @@
-use Prim.Native.Nat.{ℕ, ◌+◌, ◌≤◌}
-use mathlib.Core.Path.{◌≡◌, refl, ◌∙◌}
+use mathlib.Core.Path.{refl, ◌∙◌}
 use native.Mathlib.Omega.{arith}
-use borrow.Author.Rules.{rules}
-use lib.ListN.{length, length-set}
-use lib.Seq.{sets}
-use Rattle.rules.specs.Words.{Word}
-use Rattle.finder_access.specs.Queue.{Spelt}
+use lib.ListN.{length-set}
 use Rattle.finder_access.proofs.Backwards.{back_less, back_length, back_written, back_start}
 use Rattle.finder_access.proofs.spelling.write_word.Goals as goal
 

@@ -1,12 +1,9 @@
 use Prim.Native.Nat.{ℕ, ◌+◌, ◌≤◌}
-use mathlib.Core.Path.{◌≡◌, refl, ◌∙◌}
-use native.Mathlib.Omega.{arith}
-use borrow.Author.Rules.{rules}
-use lib.ListN.{length, length-set}
+use mathlib.Core.Path.{◌≡◌}
+use lib.ListN.{length}
 use lib.Seq.{sets}
 use Rattle.rules.specs.Words.{Word}
 use Rattle.finder_access.specs.Queue.{Spelt}
-use Rattle.finder_access.proofs.Backwards.{back_less, back_length, back_written, back_start}
 use Rattle.finder_access.proofs.spelling.write_word.Given as goal
 
 abbrev pub invariant-loop-at : goal.invariant-loop-at

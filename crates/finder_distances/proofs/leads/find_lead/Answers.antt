@@ -3,7 +3,6 @@ use Rattle.finder_distances.proofs.Leading.{leads_none, leads_some}
 use Rattle.rules.specs.Lists.{numbers}
 use Rattle.finder_distances.specs.Leads.{machine_of_unit, lead_of}
 use mathlib.Core.Path.{ap, ◌∙◌}
-use borrow.Author.Rules.{rules}
 use Rattle.finder_distances.proofs.leads.find_lead.Goals as goal
 
 pub returns-then-left-eq0 : goal.returns-then-left-eq0

@@ -1,10 +1,7 @@
-use Rattle.finder_distances.proofs.Leading.{from, lead_start, lead_by, lead_on, lead_nowhere, near_true, near_false}
+use Rattle.finder_distances.proofs.Leading.{lead_start, lead_by, lead_on, lead_nowhere, near_true, near_false}
 use Prim.Native.Nat.{◌-◌}
-use Rattle.rules.specs.Lists.{first, numbers}
 use native.Mathlib.Omega.{arith}
-use borrow.Author.Rules.{rules}
 use Rattle.finder_distances.specs.Leads.{machine_of_unit, nears}
-use mathlib.Core.Path.{◌≡◌}
 use Rattle.finder_distances.proofs.leads.nearing_input.Goals as goal
 
 pub loop-i-init : goal.loop-i-init

@@ -1,4 +1,3 @@
-use borrow.Author.Rules.{rules}
 use Rattle.finder_distances.proofs.leads.next_distance.Goals as goal
 
 pub returns : goal.returns

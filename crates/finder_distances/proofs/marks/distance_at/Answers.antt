@@ -1,5 +1,4 @@
 use Rattle.finder_distances.specs.Marks.{mark_of}
-use borrow.Author.Rules.{rules}
 use Rattle.finder_distances.proofs.marks.distance_at.Goals as goal
 
 pub returns : goal.returns

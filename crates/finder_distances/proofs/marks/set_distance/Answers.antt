@@ -1,5 +1,4 @@
 use Rattle.finder_distances.specs.Marks.{with_mark}
-use borrow.Author.Rules.{rules}
 use Rattle.finder_distances.proofs.marks.set_distance.Goals as goal
 
 pub returns : goal.returns

@@ -1,9 +1,7 @@
-use Rattle.finder_distances.proofs.Leading.{from, lead_start, lead_by, lead_on, lead_nowhere}
+use Rattle.finder_distances.proofs.Leading.{lead_start, lead_by, lead_on, lead_nowhere}
 use Prim.Native.Nat.{◌-◌}
-use Rattle.rules.specs.Lists.{first, numbers}
-use borrow.Author.Rules.{rules}
 use Rattle.finder_distances.specs.Leads.{machine_of_unit, differs}
-use mathlib.Core.Path.{◌≡◌, sym, ◌∙◌}
+use mathlib.Core.Path.{sym, ◌∙◌}
 use Rattle.finder_distances.proofs.outputs.differing_input.Goals as goal
 
 pub loop-i-init : goal.loop-i-init

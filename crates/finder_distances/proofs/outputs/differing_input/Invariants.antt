@@ -1,9 +1,8 @@
-use Rattle.finder_distances.proofs.Leading.{from, lead_start, lead_by, lead_on, lead_nowhere}
+use Rattle.finder_distances.proofs.Leading.{from}
 use Prim.Native.Nat.{◌-◌}
 use Rattle.rules.specs.Lists.{first, numbers}
-use borrow.Author.Rules.{rules}
 use Rattle.finder_distances.specs.Leads.{machine_of_unit, differs}
-use mathlib.Core.Path.{◌≡◌, sym, ◌∙◌}
+use mathlib.Core.Path.{◌≡◌}
 use Rattle.finder_distances.proofs.outputs.differing_input.Given as goal
 
 abbrev pub invariant-loop-i : goal.invariant-loop-i

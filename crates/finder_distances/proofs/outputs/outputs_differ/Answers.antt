@@ -1,5 +1,4 @@
 use Rattle.finder_distances.specs.Leads.{differs}
-use borrow.Author.Rules.{rules}
 use Rattle.finder_distances.proofs.outputs.outputs_differ.Goals as goal
 
 pub returns : goal.returns

@@ -2,12 +2,10 @@ use Rattle.finder_distances.proofs.Rounding.{unit_whole, first_round, next_round
 use native.Mathlib.Numerals.{add-one}
 use mathlib.Core.Bool.{false}
 use borrow.Author.Tests.{not-true}
-use lib.ListN.{length}
-use Prim.Native.Nat.{◌≤◌, ◌-◌}
-use Rattle.finder_distances.specs.Rounds.{Midway}
+use Prim.Native.Nat.{◌-◌}
 use Rattle.finder_distances.specs.Leads.{machine_of_unit}
 use native.Mathlib.Omega.{arith}
-use mathlib.Core.Path.{◌≡◌, refl, ◌∙◌}
+use mathlib.Core.Path.{refl, ◌∙◌}
 use Rattle.std.proofs.Common.{ap}
 use Rattle.std.specs.Prelude.{not}
 use Rattle.finder_distances.proofs.rounds.find_distances.Goals as goal

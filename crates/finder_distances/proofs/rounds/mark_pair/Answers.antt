@@ -1,7 +1,6 @@
 use Rattle.finder_distances.proofs.Rounding.{unit_whole, known_pair, left_pair, marked_pair}
 use Rattle.finder_distances.specs.Leads.{machine_of_unit}
 use native.Mathlib.Omega.{arith}
-use borrow.Author.Rules.{rules}
 use Rattle.finder_distances.proofs.rounds.mark_pair.Goals as goal
 
 pub returns-then-distance_at-ne0 : goal.returns-then-distance_at-ne0

@@ -1,9 +1,4 @@
-use lib.ListN.{length}
-use Prim.Native.Nat.{◌≤◌, ◌-◌}
-use borrow.Author.Rules.{rules}
-use Rattle.finder_distances.specs.Rounds.{Midway}
-use Rattle.finder_distances.specs.Marks.{place_of}
-use Rattle.finder_distances.specs.Leads.{machine_of_unit}
+use Prim.Native.Nat.{◌-◌}
 use native.Mathlib.Omega.{arith}
 use mathlib.Core.Path.{◌≡◌, refl, ◌∙◌}
 use Rattle.finder_distances.proofs.rounds.mark_round.Goals as goal

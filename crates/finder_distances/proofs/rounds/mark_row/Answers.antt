@@ -1,12 +1,8 @@
 use Rattle.finder_distances.proofs.Rounding.{unit_whole, row_start, row_end}
-use lib.ListN.{length}
-use Prim.Native.Nat.{◌≤◌, ◌<◌, ◌-◌}
-use borrow.Author.Rules.{rules}
-use Rattle.finder_distances.specs.Rounds.{Midway}
-use Rattle.finder_distances.specs.Marks.{place_of}
+use Prim.Native.Nat.{◌-◌}
 use Rattle.finder_distances.specs.Leads.{machine_of_unit}
 use native.Mathlib.Omega.{arith}
-use mathlib.Core.Path.{◌≡◌, refl, ◌∙◌}
+use mathlib.Core.Path.{refl, ◌∙◌}
 use Rattle.finder_distances.proofs.rounds.mark_row.Goals as goal
 
 pub overflow_add-q : goal.overflow_add-q

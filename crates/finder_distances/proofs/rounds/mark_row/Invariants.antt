@@ -1,12 +1,9 @@
-use Rattle.finder_distances.proofs.Rounding.{unit_whole, row_start, row_end}
 use lib.ListN.{length}
 use Prim.Native.Nat.{◌≤◌, ◌<◌, ◌-◌}
-use borrow.Author.Rules.{rules}
 use Rattle.finder_distances.specs.Rounds.{Midway}
 use Rattle.finder_distances.specs.Marks.{place_of}
 use Rattle.finder_distances.specs.Leads.{machine_of_unit}
-use native.Mathlib.Omega.{arith}
-use mathlib.Core.Path.{◌≡◌, refl, ◌∙◌}
+use mathlib.Core.Path.{◌≡◌}
 use Rattle.finder_distances.proofs.rounds.mark_row.Given as goal
 
 abbrev pub invariant-loop-q : goal.invariant-loop-q

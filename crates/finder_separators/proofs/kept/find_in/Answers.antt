@@ -1,7 +1,6 @@
 use Rattle.finder_separators.proofs.Keeping.{kept_at}
 use native.Mathlib.Omega.{arith}
 use mathlib.Core.Path.{sym, ◌∙◌}
-use borrow.Author.Rules.{rules}
 use Rattle.finder_separators.proofs.kept.find_in.Goals as goal
 
 pub put_words-requires-clause-words_at : goal.put_words-requires-clause-words_at

@@ -1,5 +1,4 @@
 use mathlib.Core.Path.{sym}
-use borrow.Author.Rules.{rules}
 use Rattle.finder_separators.proofs.kept.find_kept.Goals as goal
 
 pub find_in-requires-clause-text_at : goal.find_in-requires-clause-text_at

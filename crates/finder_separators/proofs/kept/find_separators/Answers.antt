@@ -1,5 +1,4 @@
 use Rattle.finder_separators.proofs.Keeping.{spelt_text, kept_separators}
-use borrow.Author.Rules.{rules}
 use Rattle.finder_separators.proofs.kept.find_separators.Goals as goal
 
 pub find_kept-distinct-requires-clause-text_at : goal.find_kept-distinct-requires-clause-text_at

@@ -1,4 +1,4 @@
-use Rattle.finder_separators.proofs.Copying.{Copying, copy_start, copy_size, copy_next, copy_end}
+use Rattle.finder_separators.proofs.Copying.{copy_start, copy_size, copy_next, copy_end}
 use Prim.Native.Nat.{◌-◌}
 use native.Mathlib.Omega.{arith}
 use Rattle.finder_separators.proofs.written.copy_word.Goals as goal

@@ -1,6 +1,5 @@
-use Rattle.finder_separators.proofs.Copying.{Copying, copy_start, copy_size, copy_next, copy_end}
+use Rattle.finder_separators.proofs.Copying.{Copying}
 use Prim.Native.Nat.{◌-◌}
-use native.Mathlib.Omega.{arith}
 use Rattle.finder_separators.proofs.written.copy_word.Given as goal
 
 abbrev pub invariant-loop-i : goal.invariant-loop-i

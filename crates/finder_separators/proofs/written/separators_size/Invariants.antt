@@ -1,7 +1,5 @@
-use Rattle.finder_separators.proofs.Copying.{Measuring, measure_start, measure_next, measure_end}
+use Rattle.finder_separators.proofs.Copying.{Measuring}
 use Prim.Native.Nat.{◌-◌}
-use borrow.Author.Rules.{rules}
-use native.Mathlib.Omega.{arith}
 use Rattle.finder_separators.proofs.written.separators_size.Given as goal
 
 abbrev pub invariant-loop-j : goal.invariant-loop-j

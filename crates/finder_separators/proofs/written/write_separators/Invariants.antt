@@ -1,7 +1,5 @@
-use Rattle.finder_separators.proofs.Copying.{Listing, list_start, list_size, list_room, list_next, list_end}
+use Rattle.finder_separators.proofs.Copying.{Listing}
 use Prim.Native.Nat.{◌-◌}
-use borrow.Author.Rules.{rules}
-use native.Mathlib.Omega.{arith}
 use Rattle.finder_separators.proofs.written.write_separators.Given as goal
 
 abbrev pub invariant-loop-j : goal.invariant-loop-j

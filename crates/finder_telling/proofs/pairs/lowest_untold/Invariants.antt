@@ -1,9 +1,6 @@
 use Rattle.finder_telling.specs.Pairs.{ToldBefore}
-use Rattle.finder_telling.proofs.Lowest.{none_before, none_found, row_at, row_nowhere}
 use Rattle.finder_distances.specs.Marks.{place_of}
 use Prim.Native.Nat.{◌-◌}
-use borrow.Author.Rules.{rules}
-use native.Mathlib.Omega.{arith}
 use Rattle.finder_telling.proofs.pairs.lowest_untold.Given as goal
 
 abbrev pub invariant-loop-p : goal.invariant-loop-p

@@ -1,8 +1,5 @@
-use Rattle.finder_telling.specs.Pairs.{ToldBefore}
 use Rattle.finder_telling.proofs.Lowest.{row_start, row_end, told_next, row_found}
-use Rattle.finder_distances.specs.Marks.{place_of}
-use Prim.Native.Nat.{◌<◌, ◌-◌}
-use borrow.Author.Rules.{rules}
+use Prim.Native.Nat.{◌-◌}
 use native.Mathlib.Omega.{arith}
 use Rattle.finder_telling.proofs.pairs.untold_row.Goals as goal
 

@@ -2,7 +2,6 @@ use Rattle.finder_telling.proofs.Reading.{input_found, input_lacking}
 use Rattle.finder_distances.proofs.Rounding.{unit_whole}
 use Rattle.finder_distances.specs.Leads.{machine_of_unit}
 use Prim.Native.Nat.{◌-◌}
-use borrow.Author.Rules.{rules}
 use Rattle.finder_telling.proofs.words.telling_input.Goals as goal
 
 pub returns-in-By : goal.returns-in-By

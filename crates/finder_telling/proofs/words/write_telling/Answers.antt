@@ -1,8 +1,7 @@
-use Rattle.finder_telling.proofs.Reading.{Midword, word_start, word_far, word_next, word_end}
+use Rattle.finder_telling.proofs.Reading.{word_start, word_far, word_next, word_end}
 use Rattle.finder_distances.proofs.Rounding.{unit_whole}
 use Rattle.finder_distances.specs.Leads.{machine_of_unit}
 use Prim.Native.Nat.{◌-◌}
-use borrow.Author.Rules.{rules}
 use native.Mathlib.Omega.{arith}
 use Rattle.finder_telling.proofs.words.write_telling.Goals as goal
 

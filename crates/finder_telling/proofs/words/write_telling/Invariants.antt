@@ -1,9 +1,6 @@
-use Rattle.finder_telling.proofs.Reading.{Midword, word_start, word_far, word_next, word_end}
-use Rattle.finder_distances.proofs.Rounding.{unit_whole}
+use Rattle.finder_telling.proofs.Reading.{Midword}
 use Rattle.finder_distances.specs.Leads.{machine_of_unit}
 use Prim.Native.Nat.{◌-◌}
-use borrow.Author.Rules.{rules}
-use native.Mathlib.Omega.{arith}
 use Rattle.finder_telling.proofs.words.write_telling.Given as goal
 
 abbrev pub invariant-loop-left : goal.invariant-loop-left

@@ -1,8 +1,5 @@
-use borrow.Author.Rules.{rules}
-use Prim.Native.Nat.{◌-◌}
 use mathlib.Core.Path.{sym, ◌∙◌}
-use Rattle.rules.specs.Kiss2.{is_gap}
-use Rattle.importer_lines.proofs.Scanning.{Scanned, scan_start, scan_next, scan_here, scan_end}
+use Rattle.importer_lines.proofs.Scanning.{scan_start, scan_next, scan_here, scan_end}
 use Rattle.importer_lines.proofs.line_fields.field_end.Goals as goal
 
 pub loop-p-init : goal.loop-p-init

@@ -1,8 +1,6 @@
-use borrow.Author.Rules.{rules}
 use Prim.Native.Nat.{◌-◌}
-use mathlib.Core.Path.{sym, ◌∙◌}
 use Rattle.rules.specs.Kiss2.{is_gap}
-use Rattle.importer_lines.proofs.Scanning.{Scanned, scan_start, scan_next, scan_here, scan_end}
+use Rattle.importer_lines.proofs.Scanning.{Scanned}
 use Rattle.importer_lines.proofs.line_fields.field_end.Given as goal
 
 abbrev pub invariant-loop-p : goal.invariant-loop-p

@@ -1,9 +1,6 @@
-use borrow.Author.Rules.{rules}
-use Prim.Native.Nat.{◌-◌}
 use mathlib.Core.Path.{sym, ap, ◌∙◌}
 use mathlib.Core.Bool.{not}
-use Rattle.importer_lines.specs.Fields.{no_gap}
-use Rattle.importer_lines.proofs.Scanning.{Scanned, scan_start, scan_next, scan_here, scan_end}
+use Rattle.importer_lines.proofs.Scanning.{scan_start, scan_next, scan_here, scan_end}
 use Rattle.importer_lines.proofs.line_fields.field_start.Goals as goal
 
 pub loop-p-init : goal.loop-p-init

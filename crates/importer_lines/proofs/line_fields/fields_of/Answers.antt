@@ -1,5 +1,4 @@
 use Rattle.importer_lines.proofs.Counting.{five_taken}
-use borrow.Author.Rules.{rules}
 use Rattle.importer_lines.proofs.line_fields.fields_of.Goals as goal
 
 pub returns : goal.returns

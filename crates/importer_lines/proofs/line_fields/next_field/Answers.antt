@@ -1,5 +1,4 @@
 use Rattle.importer_lines.proofs.Counting.{next_found}
-use borrow.Author.Rules.{rules}
 use Rattle.importer_lines.proofs.line_fields.next_field.Goals as goal
 
 pub returns-clause-next_field : goal.returns-clause-next_field

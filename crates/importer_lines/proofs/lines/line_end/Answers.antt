@@ -1,9 +1,5 @@
-use borrow.Author.Rules.{rules}
 use borrow.Author.Tests.{eq-eqb, ne_eqb}
-use Prim.Native.Nat.{◌-◌}
-use lib.ListN.{length}
-use Rattle.importer_lines.specs.Lines.{is_feed}
-use Rattle.importer_lines.proofs.Scanning.{Scanned, scan_start, scan_next, scan_here, scan_end}
+use Rattle.importer_lines.proofs.Scanning.{scan_start, scan_next, scan_here, scan_end}
 use Rattle.importer_lines.proofs.lines.line_end.Goals as goal
 
 pub loop-p-init : goal.loop-p-init

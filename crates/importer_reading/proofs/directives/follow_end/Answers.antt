@@ -1,5 +1,4 @@
 use Rattle.importer_reading.proofs.Following.{end_bad, end_goes}
-use borrow.Author.Rules.{rules}
 use Rattle.importer_reading.proofs.directives.follow_end.Goals as goal
 
 pub returns-in-Bad : goal.returns-in-Bad

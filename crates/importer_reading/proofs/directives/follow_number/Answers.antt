@@ -1,5 +1,4 @@
 use Rattle.importer_reading.proofs.Following.{number_bad, number_goes}
-use borrow.Author.Rules.{rules}
 use Rattle.importer_reading.proofs.directives.follow_number.Goals as goal
 
 pub returns-in-Bad : goal.returns-in-Bad

@@ -1,7 +1,6 @@
 use mathlib.Core.Path.{sym}
 use Rattle.importer_reading.proofs.Following.{reset_bad, not_full, reset_goes, named_below}
 use Rattle.importer_reading.proofs.TwoNames.{some_slots}
-use borrow.Author.Rules.{rules}
 use Rattle.importer_reading.proofs.directives.follow_reset.Goals as goal
 
 pub number_name-requires-clause-field_in : goal.number_name-requires-clause-field_in

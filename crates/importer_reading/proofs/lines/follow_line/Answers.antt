@@ -1,7 +1,6 @@
 use Rattle.importer_reading.proofs.AllLines.{some_names, some_said, ranks_room, term_fields, said_so, bad_step, skipped_goes}
 use Rattle.importer_reading.proofs.OneTerm.{name_short}
 use Rattle.importer_says.specs.Said.{said_skipped, said_number, said_reset, said_term, said_end, said_bad}
-use borrow.Author.Rules.{rules}
 use Rattle.importer_reading.proofs.lines.follow_line.Goals as goal
 
 pub follow_number-requires : goal.follow_number-requires

@@ -1,7 +1,5 @@
-use mathlib.Core.Path.{◌≡◌, refl, ◌∙◌}
-use Rattle.importer_reading.proofs.AllLines.{Reading, reading_start, reading_held, read_done, read_bad, read_contradicts, read_goes}
-use lib.ListN.{length}
-use borrow.Author.Rules.{rules}
+use mathlib.Core.Path.{refl, ◌∙◌}
+use Rattle.importer_reading.proofs.AllLines.{reading_start, reading_held, read_done, read_bad, read_contradicts, read_goes}
 use native.Mathlib.Omega.{arith}
 use Prim.Native.Nat.{◌-◌}
 use Rattle.importer_reading.proofs.lines.read_lines.Goals as goal

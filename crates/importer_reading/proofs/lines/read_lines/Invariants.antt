@@ -1,8 +1,6 @@
-use mathlib.Core.Path.{◌≡◌, refl, ◌∙◌}
-use Rattle.importer_reading.proofs.AllLines.{Reading, reading_start, reading_held, read_done, read_bad, read_contradicts, read_goes}
+use mathlib.Core.Path.{◌≡◌}
+use Rattle.importer_reading.proofs.AllLines.{Reading}
 use lib.ListN.{length}
-use borrow.Author.Rules.{rules}
-use native.Mathlib.Omega.{arith}
 use Prim.Native.Nat.{◌-◌}
 use Rattle.importer_reading.proofs.lines.read_lines.Given as goal
 

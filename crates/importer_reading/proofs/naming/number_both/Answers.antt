@@ -1,6 +1,5 @@
 use mathlib.Core.List.{[]}
 use Rattle.importer_reading.proofs.TwoNames.{some_slots, first_full, first_names, first_many, first_slots, second_full, both_named}
-use borrow.Author.Rules.{rules}
 use Rattle.importer_reading.proofs.naming.number_both.Goals as goal
 
 pub number_name-requires-clause-field_in : goal.number_name-requires-clause-field_in

@@ -1,5 +1,4 @@
 use mathlib.Core.Path.{sym, ◌∙◌}
-use borrow.Author.Rules.{rules}
 use Rattle.importer_reading.proofs.terms.enter_term.Goals as goal
 
 pub returns-then-contradicts : goal.returns-then-contradicts

@@ -1,5 +1,4 @@
 use Rattle.importer_reading.proofs.OneTerm.{ready_in, term_bad, term_over, terms_over, entries_at, term_contradicts, term_goes}
-use borrow.Author.Rules.{rules}
 use Rattle.importer_reading.proofs.terms.follow_term.Goals as goal
 
 pub enter_term-requires-clause-term_in : goal.enter_term-requires-clause-term_in

@@ -1,6 +1,5 @@
 use mathlib.Core.Path.{sym, ◌∙◌}
 use Rattle.importer_reading.proofs.OneTerm.{name_short, field_long, term_misfits, no_room, too_many, output_in, term_ready, term_named}
-use borrow.Author.Rules.{rules}
 use Rattle.std.proofs.Common.{ap}
 use Rattle.std.specs.Prelude.{not}
 use Rattle.importer_reading.proofs.terms.name_term.Goals as goal

@@ -1,4 +1,3 @@
-use borrow.Author.Rules.{rules}
 use Rattle.importer_says.proofs.directives.name_of.Goals as goal
 
 pub returns-in-Inputs : goal.returns-in-Inputs

@@ -1,4 +1,3 @@
-use borrow.Author.Rules.{rules}
 use Rattle.importer_says.proofs.fields.is_allowed.Goals as goal
 
 pub returns-in-Digits : goal.returns-in-Digits

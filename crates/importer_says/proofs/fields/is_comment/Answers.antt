@@ -1,5 +1,4 @@
 use Rattle.importer_says.proofs.Bytes.{no_comment, comment_first}
-use borrow.Author.Rules.{rules}
 use Rattle.importer_says.proofs.fields.is_comment.Goals as goal
 
 pub returns-then-field-eq0 : goal.returns-then-field-eq0

@@ -1,5 +1,4 @@
 use mathlib.Core.Path.{sym, ◌∙◌}
-use borrow.Author.Rules.{rules}
 use Rattle.importer_says.proofs.fields.is_cube_bit.Goals as goal
 
 pub returns-then-is_bit : goal.returns-then-is_bit

@@ -1,8 +1,6 @@
-use borrow.Author.Rules.{rules}
 use native.Mathlib.Omega.{arith}
 use Prim.Native.Nat.{◌-◌}
-use lib.ListN.{length}
-use Rattle.importer_says.proofs.Values.{Reading, reading_start, digit_at, number_small, reading_next, reading_end}
+use Rattle.importer_says.proofs.Values.{reading_start, digit_at, number_small, reading_next, reading_end}
 use Rattle.importer_says.proofs.fields.value_of.Goals as goal
 
 pub loop-i-init : goal.loop-i-init

@@ -1,5 +1,4 @@
 use Rattle.importer_says.proofs.Saying.{names_number, names_reset, names_other}
-use borrow.Author.Rules.{rules}
 use Rattle.importer_says.proofs.lines.directive_said.Goals as goal
 
 pub returns-in-Number : goal.returns-in-Number

@@ -2,7 +2,6 @@ use Rattle.rules.specs.Kiss2.{Field}
 use Rattle.rules.specs.Words.{same}
 use Rattle.importer_says.specs.Directives.{end_name}
 use Rattle.importer_says.proofs.Saying.{seen, says_end, says_no_end}
-use borrow.Author.Rules.{rules}
 use Rattle.importer_says.proofs.lines.end_said.Goals as goal
 
 pub returns-then-same_text : goal.returns-then-same_text

@@ -1,4 +1,3 @@
-use borrow.Author.Rules.{rules}
 use Rattle.importer_says.proofs.lines.is_directive.Goals as goal
 
 pub returns : goal.returns

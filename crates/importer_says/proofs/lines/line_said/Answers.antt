@@ -1,7 +1,6 @@
 use native.Mathlib.Omega.{arith}
 use Rattle.rules.specs.Kiss2.{is_comment}
 use Rattle.importer_says.proofs.Saying.{seen, line_empty, line_comment, line_end, line_directive, line_term, line_bad}
-use borrow.Author.Rules.{rules}
 use Rattle.importer_says.proofs.lines.line_said.Goals as goal
 
 pub returns-then-count-eq0 : goal.returns-then-count-eq0

@@ -1,7 +1,6 @@
 use mathlib.Core.Path.{sym, ◌∙◌}
 use Rattle.theory.specs.Words.{same_true}
 use Rattle.importer_says.proofs.Saying.{names_none}
-use borrow.Author.Rules.{rules}
 use Rattle.importer_says.proofs.lines.named_by.Goals as goal
 
 pub returns-then-is_directive : goal.returns-then-is_directive

@@ -1,5 +1,4 @@
 use Rattle.importer_says.proofs.Saying.{says_number, says_no_number}
-use borrow.Author.Rules.{rules}
 use Rattle.importer_says.proofs.lines.number_said.Goals as goal
 
 pub returns-then-in_range : goal.returns-then-in_range

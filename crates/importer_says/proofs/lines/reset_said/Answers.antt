@@ -1,6 +1,5 @@
 use Rattle.rules.specs.Kiss2.{is_name}
 use Rattle.importer_says.proofs.Saying.{seen, says_reset, says_no_reset}
-use borrow.Author.Rules.{rules}
 use Rattle.importer_says.proofs.lines.reset_said.Goals as goal
 
 pub returns-then-is_name : goal.returns-then-is_name

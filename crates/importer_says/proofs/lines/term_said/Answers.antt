@@ -1,7 +1,6 @@
 use borrow.Author.Tests.{not-true, not-false}
 use Rattle.rules.specs.Kiss2.{is_cube, is_name, is_output}
 use Rattle.importer_says.proofs.Saying.{seen, no_cube, no_current, no_next, no_output, says_term}
-use borrow.Author.Rules.{rules}
 use Rattle.std.proofs.Common.{ap}
 use Rattle.std.specs.Prelude.{not}
 use Rattle.importer_says.proofs.lines.term_said.Goals as goal

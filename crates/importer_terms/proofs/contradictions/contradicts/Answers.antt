@@ -1,8 +1,5 @@
-use Rattle.importer_terms.proofs.Differing.{NoneAgainst, against_start, against_next, against_found, none_against}
-use Prim.Native.Nat.{◌-◌}
+use Rattle.importer_terms.proofs.Differing.{against_start, against_next, against_found, none_against}
 use native.Mathlib.Omega.{arith}
-use borrow.Author.Rules.{rules}
-use Rattle.rules.specs.Sizes.{most_inputs}
 use Rattle.importer_terms.proofs.contradictions.contradicts.Goals as goal
 
 pub loop-i-init : goal.loop-i-init

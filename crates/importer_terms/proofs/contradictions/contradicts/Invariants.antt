@@ -1,7 +1,5 @@
-use Rattle.importer_terms.proofs.Differing.{NoneAgainst, against_start, against_next, against_found, none_against}
+use Rattle.importer_terms.proofs.Differing.{NoneAgainst}
 use Prim.Native.Nat.{◌-◌}
-use native.Mathlib.Omega.{arith}
-use borrow.Author.Rules.{rules}
 use Rattle.rules.specs.Sizes.{most_inputs}
 use Rattle.importer_terms.proofs.contradictions.contradicts.Given as goal
 

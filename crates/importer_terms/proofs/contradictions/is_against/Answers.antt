@@ -1,6 +1,5 @@
 use Rattle.importer_terms.proofs.Differing.{against_without, against_by}
 use borrow.Author.Tests.{not-true, not-false}
-use borrow.Author.Rules.{rules}
 use Rattle.std.proofs.Common.{ap}
 use Rattle.std.specs.Prelude.{not}
 use Rattle.importer_terms.proofs.contradictions.is_against.Goals as goal

@@ -1,6 +1,5 @@
 use Rattle.importer_terms.proofs.Differing.{else_nothing, else_next, else_output}
 use native.Mathlib.Omega.{arith}
-use borrow.Author.Rules.{rules}
 use Rattle.importer_terms.proofs.contradictions.says_else.Goals as goal
 
 pub returns-then-mark-eq0 : goal.returns-then-mark-eq0

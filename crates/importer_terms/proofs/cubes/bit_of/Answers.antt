@@ -1,5 +1,4 @@
 use Rattle.importer_terms.proofs.Bits.{weight_some, bit_is}
-use borrow.Author.Rules.{rules}
 use Rattle.importer_terms.proofs.cubes.bit_of.Goals as goal
 
 pub nonzero_div-result : goal.nonzero_div-result

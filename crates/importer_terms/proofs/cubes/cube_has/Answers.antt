@@ -1,8 +1,6 @@
-use Prim.Native.Nat.{◌-◌}
 use native.Mathlib.Omega.{arith}
-use borrow.Author.Rules.{rules}
 use borrow.Author.Tests.{not-true, not-false}
-use Rattle.importer_terms.proofs.Bits.{Fitting, fitting_start, fitting_next, fitting_stops, fitting_end, too_wide}
+use Rattle.importer_terms.proofs.Bits.{fitting_start, fitting_next, fitting_stops, fitting_end, too_wide}
 use Rattle.std.proofs.Common.{ap}
 use Rattle.std.specs.Prelude.{not}
 use Rattle.importer_terms.proofs.cubes.cube_has.Goals as goal

@@ -1,7 +1,6 @@
 use mathlib.Core.Path.{refl}
 use native.Mathlib.Omega.{arith}
 use Rattle.importer_terms.proofs.Bits.{dash_fits, bit_fits}
-use borrow.Author.Rules.{rules}
 use Rattle.importer_terms.proofs.cubes.fits.Goals as goal
 
 pub returns-then-byte-eq45 : goal.returns-then-byte-eq45

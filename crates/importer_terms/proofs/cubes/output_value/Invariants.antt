@@ -1,6 +1,5 @@
 use Prim.Native.Nat.{◌-◌}
-use native.Mathlib.Omega.{arith}
-use Rattle.importer_terms.proofs.Bits.{Valued, valued_start, bit_byte, value_small, valued_next, valued_end}
+use Rattle.importer_terms.proofs.Bits.{Valued}
 use Rattle.importer_terms.proofs.cubes.output_value.Given as goal
 
 abbrev pub invariant-loop-at : goal.invariant-loop-at

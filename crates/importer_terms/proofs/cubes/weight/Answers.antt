@@ -1,5 +1,4 @@
 use Rattle.importer_terms.proofs.Bits.{weight_is}
-use borrow.Author.Rules.{rules}
 use Rattle.importer_terms.proofs.cubes.weight.Goals as goal
 
 pub returns : goal.returns

@@ -1,7 +1,6 @@
 use Prim.Native.Nat.{◌+◌}
 use Rattle.importer_terms.proofs.Entering.{new_without, new_there, new_is, put_new, put_old}
 use native.Mathlib.Omega.{arith}
-use borrow.Author.Rules.{rules}
 use Rattle.importer_terms.proofs.entries.put_entry.Goals as goal
 
 pub returns-then-nexts-place-eq0-clause-nexts_after : goal.returns-then-nexts-place-eq0-clause-nexts_after

@@ -1,9 +1,6 @@
-use Rattle.importer_terms.proofs.Entering.{Putting, putting_start, putting_next, entries_put}
-use Prim.Native.Nat.{◌-◌}
+use Rattle.importer_terms.proofs.Entering.{putting_start, putting_next, entries_put}
 use mathlib.Core.Path.{◌∙◌}
 use native.Mathlib.Omega.{arith}
-use borrow.Author.Rules.{rules}
-use Rattle.rules.specs.Sizes.{most_inputs}
 use Rattle.importer_terms.proofs.entries.put_term.Goals as goal
 
 pub loop-i-init : goal.loop-i-init

@@ -1,8 +1,5 @@
-use Rattle.importer_terms.proofs.Entering.{Putting, putting_start, putting_next, entries_put}
+use Rattle.importer_terms.proofs.Entering.{Putting}
 use Prim.Native.Nat.{◌-◌}
-use mathlib.Core.Path.{◌∙◌}
-use native.Mathlib.Omega.{arith}
-use borrow.Author.Rules.{rules}
 use Rattle.rules.specs.Sizes.{most_inputs}
 use Rattle.importer_terms.proofs.entries.put_term.Given as goal
 

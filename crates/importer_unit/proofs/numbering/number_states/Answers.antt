@@ -1,8 +1,6 @@
 use mathlib.Core.Path.{refl}
-use Prim.Native.Nat.{◌-◌, ◌≤◌}
 use native.Mathlib.Omega.{arith}
-use borrow.Author.Rules.{rules}
-use Rattle.importer_unit.proofs.Inverse.{Inverting, inverting_start, inverting_next, inverting_end}
+use Rattle.importer_unit.proofs.Inverse.{inverting_start, inverting_next, inverting_end}
 use Rattle.importer_unit.proofs.numbering.number_states.Goals as goal
 
 pub loop-j-init : goal.loop-j-init

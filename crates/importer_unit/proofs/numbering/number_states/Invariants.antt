@@ -1,8 +1,5 @@
-use mathlib.Core.Path.{refl}
 use Prim.Native.Nat.{◌-◌, ◌≤◌}
-use native.Mathlib.Omega.{arith}
-use borrow.Author.Rules.{rules}
-use Rattle.importer_unit.proofs.Inverse.{Inverting, inverting_start, inverting_next, inverting_end}
+use Rattle.importer_unit.proofs.Inverse.{Inverting}
 use Rattle.importer_unit.proofs.numbering.number_states.Given as goal
 
 abbrev pub invariant-loop-j : goal.invariant-loop-j

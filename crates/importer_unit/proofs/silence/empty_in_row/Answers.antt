@@ -1,7 +1,5 @@
-use Prim.Native.Nat.{◌-◌, ◌≤◌}
 use native.Mathlib.Omega.{arith}
-use borrow.Author.Rules.{rules}
-use Rattle.importer_unit.proofs.Silences.{RowFull, row_start, row_next, row_found, row_end}
+use Rattle.importer_unit.proofs.Silences.{row_start, row_next, row_found, row_end}
 use Rattle.importer_unit.proofs.silence.empty_in_row.Goals as goal
 
 pub loop-left-init : goal.loop-left-init

@@ -1,7 +1,5 @@
 use Prim.Native.Nat.{◌-◌, ◌≤◌}
-use native.Mathlib.Omega.{arith}
-use borrow.Author.Rules.{rules}
-use Rattle.importer_unit.proofs.Silences.{RowFull, row_start, row_next, row_found, row_end}
+use Rattle.importer_unit.proofs.Silences.{RowFull}
 use Rattle.importer_unit.proofs.silence.empty_in_row.Given as goal
 
 abbrev pub invariant-loop-left : goal.invariant-loop-left

@@ -1,7 +1,5 @@
-use Prim.Native.Nat.{◌-◌, ◌≤◌}
 use native.Mathlib.Omega.{arith}
-use borrow.Author.Rules.{rules}
-use Rattle.importer_unit.proofs.Silences.{RowsFull, rows_start, rows_next, name_low, silent_none, silent_here}
+use Rattle.importer_unit.proofs.Silences.{rows_start, rows_next, name_low, silent_none, silent_here}
 use Rattle.importer_unit.proofs.silence.find_silent.Goals as goal
 
 pub loop-left-init : goal.loop-left-init

@@ -3,7 +3,6 @@ use mathlib.Core.Path.{refl, ap}
 use Prim.Native.Nat.{◌-◌}
 use lib.ListN.{get_or, length-set}
 use Rattle.importer_unit.proofs.Holding.{entry_written}
-use borrow.Author.Rules.{rules}
 use Rattle.importer_unit.proofs.writing.write_entry.Goals as goal
 
 pub overflow_sub-out : goal.overflow_sub-out

@@ -2,7 +2,6 @@ use native.Mathlib.Omega.{arith}
 use lib.ListN.{length-set}
 use native.Mathlib.Nat.{mul-le-mul}
 use Rattle.importer_unit.proofs.Holding.{head_written}
-use borrow.Author.Rules.{rules}
 use Rattle.importer_unit.proofs.writing.write_head.Goals as goal
 
 pub overflow_mul-count : goal.overflow_mul-count

@@ -1,11 +1,6 @@
 use Prim.Native.Nat.{◌-◌, ◌≤◌}
-use native.Mathlib.Omega.{arith}
-use borrow.Author.Rules.{rules}
-use mathlib.Core.Path.{ap, ◌∙◌}
-use Rattle.theory.specs.Wrote.{Writing, writing_start, writing_size, writing_end}
+use Rattle.theory.specs.Wrote.{Writing}
 use Rattle.importer_unit.specs.Held.{row_bytes}
-use Rattle.importer_terms.specs.Entries.{entry_place}
-use Rattle.importer_unit.proofs.Holding.{row_long, row_start, row_end, row_room, row_again}
 use Rattle.importer_unit.proofs.writing.write_row.Given as goal
 
 abbrev pub invariant-loop-i : goal.invariant-loop-i

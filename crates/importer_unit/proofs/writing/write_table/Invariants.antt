@@ -1,9 +1,6 @@
 use Prim.Native.Nat.{◌-◌, ◌≤◌}
-use native.Mathlib.Omega.{arith}
-use borrow.Author.Rules.{rules}
-use Rattle.theory.specs.Wrote.{Writing, writing_start, writing_size, writing_end}
+use Rattle.theory.specs.Wrote.{Writing}
 use Rattle.importer_unit.specs.Held.{held_bytes}
-use Rattle.importer_unit.proofs.Holding.{row_of, held_long, held_start, held_end, held_room, held_again}
 use Rattle.importer_unit.proofs.writing.write_table.Given as goal
 
 abbrev pub invariant-loop-q : goal.invariant-loop-q

@@ -2,7 +2,6 @@ use Prim.Native.Nat.{◌*◌}
 use native.Mathlib.Omega.{arith}
 use Rattle.theory.specs.Wrote.{wrote_size}
 use Rattle.importer_unit.proofs.Holding.{head_long, unit_written}
-use borrow.Author.Rules.{rules}
 use Rattle.importer_unit.proofs.writing.write_unit.Goals as goal
 
 pub write_table-requires-clause-tables : goal.write_table-requires-clause-tables

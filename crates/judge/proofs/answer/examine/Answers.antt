@@ -1,5 +1,4 @@
 use Rattle.judge.proofs.Examining.{handed, examined_unread, examined_unchecked}
-use borrow.Author.Rules.{rules}
 use Rattle.judge.proofs.answer.examine.Goals as goal
 
 pub examine_both-requires : goal.examine_both-requires

@@ -1,5 +1,4 @@
 use Rattle.judge.proofs.Examining.{examined_unpaired, matched}
-use borrow.Author.Rules.{rules}
 use Rattle.judge.proofs.answer.examine_in.Goals as goal
 
 pub examine_matched-requires : goal.examine_matched-requires

@@ -1,6 +1,5 @@
 use native.Mathlib.Omega.{arith}
 use Rattle.judge.proofs.Examining.{served, examined_agrees, deviating_whole, examined_deviates}
-use borrow.Author.Rules.{rules}
 use Rattle.judge.proofs.answer.examine_matched.Goals as goal
 
 pub find_deviating-requires-clause-table_at : goal.find_deviating-requires-clause-table_at

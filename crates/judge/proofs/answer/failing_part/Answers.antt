@@ -1,5 +1,4 @@
 use Rattle.judge.proofs.Examining.{part_told}
-use borrow.Author.Rules.{rules}
 use Rattle.judge.proofs.answer.failing_part.Goals as goal
 
 pub returns-in-Agrees : goal.returns-in-Agrees

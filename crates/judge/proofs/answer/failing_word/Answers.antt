@@ -1,6 +1,5 @@
 use native.Mathlib.Omega.{arith}
 use Rattle.judge.proofs.Examining.{part_inside, part_taken}
-use borrow.Author.Rules.{rules}
 use Rattle.judge.proofs.answer.failing_word.Goals as goal
 
 pub overflow_add-end : goal.overflow_add-end

@@ -1,5 +1,4 @@
 use Rattle.judge.proofs.Examining.{says_judged}
-use borrow.Author.Rules.{rules}
 use Rattle.judge.proofs.answer.judge.Goals as goal
 
 pub returns-in-Agrees : goal.returns-in-Agrees

@@ -1,13 +1,8 @@
-use borrow.Author.Rules.{rules}
 use Prim.Native.Nat.{◌-◌}
-use mathlib.Core.List.{List}
 use mathlib.Core.Bool.{not}
 use borrow.Author.Tests.{not-true, not-false}
-use Rattle.rules.specs.Words.{Word, is_in}
 use Rattle.reader.specs.Places.{records_at}
-use Rattle.judge_records.specs.Filed.{words_of}
-use Rattle.judge_pairing.specs.Marked.{Knowing}
-use Rattle.judge_records.proofs.Standing.{RecordsLeft, RecordScan, records_begin, record_whole, records_next, record_scan_begin}
+use Rattle.judge_records.proofs.Standing.{records_begin, record_whole, records_next, record_scan_begin}
 use Rattle.judge_pairing.proofs.Pairs.{foreign-found, foreign_next, foreign_end}
 use Rattle.std.proofs.Common.{ap}
 use Rattle.judge_pairing.proofs.foreign.find_foreign.Goals as goal

@@ -1,6 +1,5 @@
 use Rattle.trie.specs.Grow.{size_pos}
 use Rattle.judge_pairing.proofs.Marks.{node_inside, known_at, known_off}
-use borrow.Author.Rules.{rules}
 use Rattle.judge_pairing.proofs.foreign.is_test.Goals as goal
 
 pub is_marked-requires : goal.is_marked-requires

@@ -1,6 +1,5 @@
 use Rattle.trie.specs.Grow.{size_pos}
 use Rattle.judge_pairing.proofs.Marks.{node_inside, marking_at, marking_off}
-use borrow.Author.Rules.{rules}
 use Rattle.judge_pairing.proofs.foreign.mark_test.Goals as goal
 
 pub mark-requires : goal.mark-requires

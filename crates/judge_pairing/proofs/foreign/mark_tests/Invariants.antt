@@ -1,14 +1,9 @@
-use borrow.Author.Rules.{rules}
-use native.Mathlib.Omega.{arith}
-use mathlib.Core.Path.{◌≡◌, refl, ◌∙◌}
+use mathlib.Core.Path.{◌≡◌}
 use lib.ListN.{length}
 use Rattle.reader.specs.Places.{words_at, WordsAt}
-use Rattle.reader.specs.Turns.{word_turn, word_room, words_after}
 use Rattle.trie.specs.Model.{Trie}
 use Rattle.trie.specs.Holds.{Holds}
 use Rattle.judge_pairing.specs.Marked.{Marking}
-use Rattle.judge_pairing.proofs.Marks.{marking_begin}
-use Rattle.judge_pairing.proofs.Pairs.{marking_next, marking_end}
 use Rattle.judge_pairing.proofs.foreign.mark_tests.Given as goal
 
 abbrev pub invariant-loop-left : goal.invariant-loop-left

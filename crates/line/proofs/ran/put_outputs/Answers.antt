@@ -1,5 +1,4 @@
 use Rattle.line_writer.proofs.Lines.{feed_closes, next_closes}
-use borrow.Author.Rules.{rules}
 use Rattle.line.proofs.ran.put_outputs.Goals as goal
 
 pub returns : goal.returns

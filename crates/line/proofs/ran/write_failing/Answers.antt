@@ -1,6 +1,5 @@
 use Rattle.reader.specs.Turns.{word_part}
 use Rattle.line.proofs.Failing.{failing_number, failing_tables, failing_step, failing_spelled, failing_says}
-use borrow.Author.Rules.{rules}
 use Rattle.line.proofs.ran.write_failing.Goals as goal
 
 pub word_place-word-requires-clause-words_at : goal.word_place-word-requires-clause-words_at

@@ -1,5 +1,4 @@
 use Rattle.line_writer.proofs.Lines.{next_closes, first_closes}
-use borrow.Author.Rules.{rules}
 use Rattle.line.proofs.ran.write_fails.Goals as goal
 
 pub returns : goal.returns

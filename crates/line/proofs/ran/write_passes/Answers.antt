@@ -1,5 +1,4 @@
 use Rattle.line_writer.proofs.Lines.{feed_closes, next_closes, first_closes}
-use borrow.Author.Rules.{rules}
 use Rattle.line.proofs.ran.write_passes.Goals as goal
 
 pub returns : goal.returns

@@ -1,6 +1,5 @@
 use Rattle.checker.proofs.Accepting.{accepted_at}
 use Rattle.line.proofs.Verdicts.{unchecked_line}
-use borrow.Author.Rules.{rules}
 use Rattle.line.proofs.ran.write_run_line.Goals as goal
 
 pub write_trial-requires-clause-accepted_at : goal.write_trial-requires-clause-accepted_at

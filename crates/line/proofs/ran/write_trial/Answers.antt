@@ -1,5 +1,4 @@
 use Rattle.line.proofs.Verdicts.{malformed_line, unit_at_lem}
-use borrow.Author.Rules.{rules}
 use Rattle.line.proofs.ran.write_trial.Goals as goal
 
 pub write_verdict-requires-clause-accepted_at : goal.write_verdict-requires-clause-accepted_at

@@ -1,5 +1,4 @@
 use Rattle.line.proofs.Verdicts.{passes_line_lem, refused_line_lem, failing_at}
-use borrow.Author.Rules.{rules}
 use Rattle.line.proofs.ran.write_verdict.Goals as goal
 
 pub write_failing-requires-clause-failing_at : goal.write_failing-requires-clause-failing_at

@@ -1,4 +1,3 @@
-use borrow.Author.Rules.{rules}
 use Rattle.line.proofs.refused.initial.Goals as goal
 
 pub returns-in-Dossier : goal.returns-in-Dossier

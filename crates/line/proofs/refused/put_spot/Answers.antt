@@ -1,6 +1,5 @@
 use Rattle.line_writer.proofs.Lines.{feed_closes, next_closes}
 use Rattle.line_writer.proofs.Writing.{puts_then}
-use borrow.Author.Rules.{rules}
 use Rattle.line.proofs.refused.put_spot.Goals as goal
 
 pub returns : goal.returns

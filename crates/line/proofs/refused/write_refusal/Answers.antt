@@ -1,5 +1,4 @@
 use Rattle.line.proofs.Spots.{no_spot, refused_at, refused_only}
-use borrow.Author.Rules.{rules}
 use Rattle.line.proofs.refused.write_refusal.Goals as goal
 
 pub returns-in-Malformed : goal.returns-in-Malformed

@@ -3,7 +3,6 @@ use Rattle.reader_steps.specs.Steps.{byte_read}
 use Rattle.rules.specs.declared.Fault.TheVariants.{BadNumbers}
 use mathlib.Core.Path.{sym, ◌∙◌}
 use Rattle.rules.specs.Sizes.{bound_good}
-use borrow.Author.Rules.{rules}
 use Rattle.reader.proofs.bound.bound_at.Goals as goal
 
 pub returns-then-bound_in_range : goal.returns-then-bound_in_range

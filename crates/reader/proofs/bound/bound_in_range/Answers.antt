@@ -1,5 +1,4 @@
 use Rattle.reader.proofs.Bounds.{bound_below, bound_near, bound_over}
-use borrow.Author.Rules.{rules}
 use Rattle.reader.proofs.bound.bound_in_range.Goals as goal
 
 pub returns-then-bound-states : goal.returns-then-bound-states

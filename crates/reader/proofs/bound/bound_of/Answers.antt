@@ -1,5 +1,4 @@
 use Rattle.reader.proofs.Bounds.{bound_byte}
-use borrow.Author.Rules.{rules}
 use Rattle.reader.proofs.bound.bound_of.Goals as goal
 
 pub returns-else-byte-eq0 : goal.returns-else-byte-eq0

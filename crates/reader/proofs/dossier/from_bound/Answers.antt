@@ -1,5 +1,4 @@
 use Rattle.reader.proofs.Joined.{bound_read, bound_stopped}
-use borrow.Author.Rules.{rules}
 use Rattle.reader.proofs.dossier.from_bound.Goals as goal
 
 pub returns-in-Byte : goal.returns-in-Byte

@@ -1,5 +1,4 @@
 use Rattle.reader.proofs.Joined.{cover_read, cover_stopped}
-use borrow.Author.Rules.{rules}
 use Rattle.reader.proofs.dossier.from_cover.Goals as goal
 
 pub returns-in-Words : goal.returns-in-Words

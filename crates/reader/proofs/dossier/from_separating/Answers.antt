@@ -1,5 +1,4 @@
 use Rattle.reader.proofs.Joined.{separating_read, separating_stopped}
-use borrow.Author.Rules.{rules}
 use Rattle.reader.proofs.dossier.from_separating.Goals as goal
 
 pub returns-in-Words : goal.returns-in-Words

@@ -1,5 +1,4 @@
 use Rattle.reader.proofs.Joined.{table_next, table_stopped}
-use borrow.Author.Rules.{rules}
 use Rattle.reader.proofs.dossier.from_table.Goals as goal
 
 pub returns-in-Next : goal.returns-in-Next

@@ -1,5 +1,4 @@
 use Rattle.reader.proofs.Joined.{tests_last, tests_trailing, tests_stopped}
-use borrow.Author.Rules.{rules}
 use Rattle.reader.proofs.dossier.from_tests.Goals as goal
 
 pub returns-then-next-bytes : goal.returns-then-next-bytes

@@ -1,5 +1,4 @@
 use Rattle.reader.proofs.Joined.{dossier_long, dossier_sizes, dossier_stopped}
-use borrow.Author.Rules.{rules}
 use Rattle.reader.proofs.dossier.read_dossier.Goals as goal
 
 pub returns-then-bytes-gt-MOST_DOSSIER_BYTES : goal.returns-then-bytes-gt-MOST_DOSSIER_BYTES

@@ -1,5 +1,4 @@
 use Rattle.reader.proofs.Joined.{sheet_last, sheet_trailing, records_stopped}
-use borrow.Author.Rules.{rules}
 use Rattle.reader.proofs.sheet.from_records.Goals as goal
 
 pub returns-then-next-bytes : goal.returns-then-next-bytes

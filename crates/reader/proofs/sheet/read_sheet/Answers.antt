@@ -1,5 +1,4 @@
 use Rattle.reader.proofs.Joined.{sheet_long, sheet_counted, sheet_stopped}
-use borrow.Author.Rules.{rules}
 use Rattle.reader.proofs.sheet.read_sheet.Goals as goal
 
 pub returns-then-bytes-gt-MOST_SHEET_BYTES : goal.returns-then-bytes-gt-MOST_SHEET_BYTES

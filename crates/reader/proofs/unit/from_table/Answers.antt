@@ -1,5 +1,4 @@
 use Rattle.reader.proofs.Joined.{unit_last, unit_trailing, unit_table_stopped}
-use borrow.Author.Rules.{rules}
 use Rattle.reader.proofs.unit.from_table.Goals as goal
 
 pub returns-then-next-bytes : goal.returns-then-next-bytes

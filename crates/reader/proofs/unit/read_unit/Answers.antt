@@ -1,5 +1,4 @@
 use Rattle.reader.proofs.Joined.{unit_long, unit_sizes, unit_stopped}
-use borrow.Author.Rules.{rules}
 use Rattle.reader.proofs.unit.read_unit.Goals as goal
 
 pub returns-then-bytes-gt-MOST_UNIT_BYTES : goal.returns-then-bytes-gt-MOST_UNIT_BYTES

@@ -1,10 +1,7 @@
-use borrow.Author.Rules.{rules}
-use mathlib.Core.Path.{◌≡◌, sym, ◌∙◌}
-use lib.ListN.{drop}
+use mathlib.Core.Path.{sym, ◌∙◌}
 use Rattle.reader_steps.proofs.Laws.{many_next, many_stopped, many_done}
-use Rattle.rules.specs.Reading.{many, entry}
+use Rattle.rules.specs.Reading.{entry}
 use Rattle.reader_parts.proofs.Parts.{kept_entry}
-use Rattle.reader_steps.specs.Steps.{step}
 use Rattle.reader_parts.proofs.machine.entries_at.Goals as goal
 
 pub loop-left-preserved : goal.loop-left-preserved

@@ -1,9 +1,6 @@
-use borrow.Author.Rules.{rules}
-use mathlib.Core.Path.{◌≡◌, sym, ◌∙◌}
+use mathlib.Core.Path.{◌≡◌}
 use lib.ListN.{drop}
-use Rattle.reader_steps.proofs.Laws.{many_next, many_stopped, many_done}
 use Rattle.rules.specs.Reading.{many, entry}
-use Rattle.reader_parts.proofs.Parts.{kept_entry}
 use Rattle.reader_steps.specs.Steps.{step}
 use Rattle.reader_parts.proofs.machine.entries_at.Given as goal
 

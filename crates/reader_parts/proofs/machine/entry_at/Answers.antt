@@ -1,5 +1,4 @@
 use Rattle.reader_parts.proofs.Parts.{entry_read, entry_bad, entry_cut}
-use borrow.Author.Rules.{rules}
 use Rattle.reader_parts.proofs.machine.entry_at.Goals as goal
 
 pub returns-then-state-states : goal.returns-then-state-states

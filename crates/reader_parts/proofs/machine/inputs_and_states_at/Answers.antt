@@ -1,5 +1,4 @@
 use Rattle.reader_parts.proofs.Parts.{both_read, states_missing, inputs_missing}
-use borrow.Author.Rules.{rules}
 use Rattle.reader_parts.proofs.machine.inputs_and_states_at.Goals as goal
 
 pub returns-in-Byte-number_at : goal.returns-in-Byte-number_at

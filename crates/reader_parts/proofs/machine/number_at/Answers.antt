@@ -3,7 +3,6 @@ use Rattle.reader_steps.specs.Steps.{byte_read}
 use Rattle.rules.specs.declared.Fault.TheVariants.{BadNumbers}
 use mathlib.Core.Path.{sym, ◌∙◌}
 use Rattle.rules.specs.Sizes.{counts}
-use borrow.Author.Rules.{rules}
 use Rattle.reader_parts.proofs.machine.number_at.Goals as goal
 
 pub returns-then-in_range : goal.returns-then-in_range

@@ -1,5 +1,4 @@
 use Rattle.reader_parts.proofs.Parts.{sizes_read_lem, sizes_bad, sizes_cut}
-use borrow.Author.Rules.{rules}
 use Rattle.reader_parts.proofs.machine.sizes_at.Goals as goal
 
 pub returns-then-count-expected : goal.returns-then-count-expected

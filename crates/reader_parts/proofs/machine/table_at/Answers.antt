@@ -2,7 +2,6 @@ use Rattle.reader_parts.proofs.Parts.{table_read, table_bad, table_cut}
 use Prim.Native.Nat.{◌≤◌}
 use native.Mathlib.Nat.{mul-le-mul}
 use native.Mathlib.Omega.{arith}
-use borrow.Author.Rules.{rules}
 use Rattle.reader_parts.proofs.machine.table_at.Goals as goal
 
 pub overflow_mul-expected : goal.overflow_mul-expected

@@ -1,5 +1,4 @@
 use Rattle.reader_parts.proofs.Parts.{record_read, record_stopped, record_cut}
-use borrow.Author.Rules.{rules}
 use Rattle.reader_parts.proofs.records.record_at.Goals as goal
 
 pub returns-in-Next : goal.returns-in-Next

@@ -1,10 +1,7 @@
-use borrow.Author.Rules.{rules}
-use mathlib.Core.Path.{◌≡◌, sym, ◌∙◌}
-use lib.ListN.{drop}
+use mathlib.Core.Path.{sym, ◌∙◌}
 use Rattle.reader_steps.proofs.Laws.{keeps, many_next, many_stopped, many_done}
-use Rattle.rules.specs.Reading.{many, sheet_record}
+use Rattle.rules.specs.Reading.{sheet_record}
 use Rattle.theory.specs.Sections.{reads_record}
-use Rattle.reader_steps.specs.Steps.{step}
 use Rattle.reader_parts.proofs.records.records_at.Goals as goal
 
 pub loop-left-preserved : goal.loop-left-preserved

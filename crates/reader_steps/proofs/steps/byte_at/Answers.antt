@@ -1,7 +1,6 @@
 use mathlib.Core.Path.{sym, ap}
 use Rattle.reader_steps.specs.Steps.{byte_read}
 use Rattle.reader_steps.proofs.Laws.{byte_none, byte_here}
-use borrow.Author.Rules.{rules}
 use Rattle.reader_steps.proofs.steps.byte_at.Goals as goal
 
 pub returns-then-bytes-p : goal.returns-then-bytes-p

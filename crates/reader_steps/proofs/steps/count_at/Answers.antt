@@ -1,5 +1,4 @@
 use Rattle.reader_steps.proofs.Laws.{count_read_lem, count_cut, count_cut_later}
-use borrow.Author.Rules.{rules}
 use Rattle.reader_steps.proofs.steps.count_at.Goals as goal
 
 pub returns-in-Byte-byte_at : goal.returns-in-Byte-byte_at

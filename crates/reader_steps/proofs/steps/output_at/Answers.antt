@@ -1,5 +1,4 @@
 use Rattle.reader_steps.proofs.Laws.{output_read, output_stopped}
-use borrow.Author.Rules.{rules}
 use Rattle.reader_steps.proofs.steps.output_at.Goals as goal
 
 pub returns-in-Byte : goal.returns-in-Byte

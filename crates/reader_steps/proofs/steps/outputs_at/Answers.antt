@@ -1,8 +1,5 @@
-use borrow.Author.Rules.{rules}
-use mathlib.Core.Path.{◌≡◌, refl, sym, ◌∙◌}
-use lib.ListN.{drop}
-use Rattle.rules.specs.Reading.{many, output}
-use Rattle.reader_steps.specs.Steps.{step}
+use mathlib.Core.Path.{refl, sym, ◌∙◌}
+use Rattle.rules.specs.Reading.{output}
 use Rattle.reader_steps.proofs.Laws.{kept_output, output_here, output_none, many_next, many_stopped, many_done}
 use Rattle.reader_steps.proofs.steps.outputs_at.Goals as goal
 

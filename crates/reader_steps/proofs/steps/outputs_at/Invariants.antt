@@ -1,9 +1,7 @@
-use borrow.Author.Rules.{rules}
-use mathlib.Core.Path.{◌≡◌, refl, sym, ◌∙◌}
+use mathlib.Core.Path.{◌≡◌}
 use lib.ListN.{drop}
 use Rattle.rules.specs.Reading.{many, output}
 use Rattle.reader_steps.specs.Steps.{step}
-use Rattle.reader_steps.proofs.Laws.{kept_output, output_here, output_none, many_next, many_stopped, many_done}
 use Rattle.reader_steps.proofs.steps.outputs_at.Given as goal
 
 abbrev pub invariant-loop-left : goal.invariant-loop-left

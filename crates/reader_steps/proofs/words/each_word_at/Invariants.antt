@@ -1,9 +1,6 @@
-use borrow.Author.Rules.{rules}
-use mathlib.Core.Path.{◌≡◌, sym, ◌∙◌}
+use mathlib.Core.Path.{◌≡◌}
 use lib.ListN.{drop}
-use Rattle.reader_steps.proofs.Laws.{keeps, many_next, many_stopped, many_done}
 use Rattle.rules.specs.Reading.{many, word}
-use Rattle.theory.specs.Sections.{reads_word}
 use Rattle.reader_steps.specs.Steps.{step}
 use Rattle.reader_steps.proofs.words.each_word_at.Given as goal
 

@@ -3,7 +3,6 @@ use Rattle.reader_steps.specs.Steps.{byte_read}
 use Rattle.rules.specs.declared.Fault.TheVariants.{BadWord}
 use lib.Dec.{leb}
 use borrow.Author.Tests.{le-leb, lt-leb}
-use borrow.Author.Rules.{rules}
 use Rattle.reader_steps.proofs.words.length_at.Goals as goal
 
 pub returns-then-length-most : goal.returns-then-length-most

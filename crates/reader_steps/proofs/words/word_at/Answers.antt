@@ -1,5 +1,4 @@
 use Rattle.reader_steps.proofs.Sections.{word_read, word_stopped}
-use borrow.Author.Rules.{rules}
 use Rattle.reader_steps.proofs.words.word_at.Goals as goal
 
 pub returns-in-Byte : goal.returns-in-Byte

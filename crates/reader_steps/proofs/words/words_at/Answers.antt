@@ -1,5 +1,4 @@
 use Rattle.reader_steps.proofs.Sections.{words_read, words_stopped, words_cut}
-use borrow.Author.Rules.{rules}
 use Rattle.reader_steps.proofs.words.words_at.Goals as goal
 
 pub returns-in-Next : goal.returns-in-Next

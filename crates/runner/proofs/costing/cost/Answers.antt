@@ -1,5 +1,4 @@
 use Rattle.runner.proofs.Sums.{tests_stand, cost_held, cost_refused}
-use borrow.Author.Rules.{rules}
 use Rattle.runner.proofs.costing.cost.Goals as goal
 
 pub sum_lengths-sum-requires : goal.sum_lengths-sum-requires

@@ -1,11 +1,7 @@
-use Prim.Native.Nat.{◌+◌, ◌≤◌}
 use native.Mathlib.Omega.{arith}
 use native.Mathlib.Nat.{zero-add}
-use mathlib.Core.Path.{◌≡◌, sym}
-use borrow.Author.Rules.{rules}
-use Rattle.reader.specs.Places.{words_at, WordsAt}
+use mathlib.Core.Path.{sym}
 use Rattle.reader.specs.Turns.{word_turn, word_room, words_after}
-use Rattle.runner.specs.Costs.{lengths}
 use Rattle.runner.proofs.Sums.{sum_next, sum_end}
 use Rattle.runner.proofs.costing.sum_lengths.Goals as goal
 

@@ -2,7 +2,6 @@ use mathlib.Core.Path.{ap}
 use Rattle.rules.specs.Answers.{run_says}
 use Rattle.checker.proofs.Accepting.{accepted_at}
 use Rattle.runner.proofs.Running.{run_unchecked}
-use borrow.Author.Rules.{rules}
 use Rattle.runner.proofs.trial.run.Goals as goal
 
 pub try_unit-requires : goal.try_unit-requires

@@ -1,6 +1,5 @@
 use native.Mathlib.Omega.{arith}
 use Rattle.runner.proofs.Running.{run_malformed_unit, run_other_inputs, run_too_many_states, trial_at}
-use borrow.Author.Rules.{rules}
 use Rattle.runner.proofs.trial.try_unit.Goals as goal
 
 pub returns-then-inputs-y : goal.returns-then-inputs-y

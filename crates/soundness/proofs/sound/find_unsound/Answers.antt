@@ -1,7 +1,6 @@
-use mathlib.Core.Path.{◌≡◌, refl, sym, ◌∙◌, ap}
+use mathlib.Core.Path.{ap}
 use borrow.Author.Tests.{not-true, not-false}
-use Rattle.soundness.proofs.Soundness.{separating_at, finds_seven, finds_eight, finds_nine, finds_ten, finds_none}
-use borrow.Author.Rules.{rules}
+use Rattle.soundness.proofs.Soundness.{finds_seven, finds_eight, finds_nine, finds_ten, finds_none}
 use Rattle.std.specs.Prelude.{not}
 use Rattle.soundness.proofs.sound.find_unsound.Goals as goal
 

@@ -1,5 +1,4 @@
 use Rattle.soundness.proofs.Soundness.{lent_of, sound_refused, sound_held, sound_found}
-use borrow.Author.Rules.{rules}
 use Rattle.soundness.proofs.sound.read_sound.Goals as goal
 
 pub find_unsound-requires : goal.find_unsound-requires

@@ -1,11 +1,7 @@
-use Prim.Native.Nat.{◌≤◌}
 use native.Mathlib.Omega.{arith}
-use mathlib.Core.Path.{◌≡◌, refl, sym, ◌∙◌, ap}
+use mathlib.Core.Path.{refl, sym, ◌∙◌, ap}
 use mathlib.Core.List.{[]}
-use borrow.Author.Rules.{rules}
-use lib.ListN.{length}
 use Rattle.rules.specs.Words.{is_in}
-use Rattle.reader.specs.Places.{words_at, WordsAt}
 use Rattle.reader.specs.Turns.{word_turn, words_end}
 use Rattle.reader.specs.Turns.{word_room, words_after}
 use Rattle.soundness_reach.proofs.Sections.{empty_found, empty_next}

@@ -1,9 +1,8 @@
 use Prim.Native.Nat.{◌-◌}
 use native.Mathlib.Omega.{arith}
-use mathlib.Core.Path.{◌≡◌, refl, ◌∙◌}
-use lib.ListN.{length}
+use mathlib.Core.Path.{refl, ◌∙◌}
 use Rattle.trie.specs.Grow.{size_pos}
-use Rattle.trie_filing.proofs.Firsts.{SiftingAt, sifting_begin, sifting_inside, sifting_room, sifting_next, sifting_end}
+use Rattle.trie_filing.proofs.Firsts.{sifting_begin, sifting_inside, sifting_room, sifting_next, sifting_end}
 use Rattle.trie_filing.proofs.distinct.find_firsts.Goals as goal
 
 pub clear_marks-requires : goal.clear_marks-requires

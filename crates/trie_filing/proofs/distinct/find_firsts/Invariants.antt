@@ -1,9 +1,7 @@
 use Prim.Native.Nat.{◌-◌}
-use native.Mathlib.Omega.{arith}
-use mathlib.Core.Path.{◌≡◌, refl, ◌∙◌}
+use mathlib.Core.Path.{◌≡◌}
 use lib.ListN.{length}
-use Rattle.trie.specs.Grow.{size_pos}
-use Rattle.trie_filing.proofs.Firsts.{SiftingAt, sifting_begin, sifting_inside, sifting_room, sifting_next, sifting_end}
+use Rattle.trie_filing.proofs.Firsts.{SiftingAt}
 use Rattle.trie_filing.proofs.distinct.find_firsts.Given as goal
 
 abbrev pub invariant-loop-i : goal.invariant-loop-i

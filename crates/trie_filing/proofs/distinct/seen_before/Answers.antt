@@ -1,6 +1,5 @@
 use Rattle.trie.specs.Grow.{size_pos}
 use Rattle.trie_filing.proofs.Firsts.{seen_word, seen_off, seen_below}
-use borrow.Author.Rules.{rules}
 use Rattle.trie_filing.proofs.distinct.seen_before.Goals as goal
 
 pub is_marked-seen-requires : goal.is_marked-seen-requires

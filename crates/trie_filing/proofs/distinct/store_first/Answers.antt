@@ -1,5 +1,4 @@
 use mathlib.Core.Path.{refl}
-use borrow.Author.Rules.{rules}
 use Rattle.trie_filing.proofs.distinct.store_first.Goals as goal
 
 pub returns-then-seen : goal.returns-then-seen

@@ -1,5 +1,4 @@
 use Rattle.reader.specs.Turns.{word_part}
-use borrow.Author.Rules.{rules}
 use Rattle.trie_filing.proofs.fill.put_word.Goals as goal
 
 pub returns : goal.returns

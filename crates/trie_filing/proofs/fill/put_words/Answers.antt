@@ -1,11 +1,9 @@
 use native.Mathlib.Omega.{arith}
-use mathlib.Core.Path.{◌≡◌, refl, ◌∙◌}
-use borrow.Author.Rules.{rules}
-use lib.ListN.{length}
-use Rattle.reader.specs.Places.{words_at, WordsAt}
+use mathlib.Core.Path.{refl, ◌∙◌}
+use Rattle.reader.specs.Places.{words_at}
 use Rattle.reader.specs.Turns.{word_turn}
 use Rattle.reader.specs.Turns.{word_room, words_after}
-use Rattle.trie_filing.proofs.Filling.{Filling, filling_start, filling_counted, filling_next, filling_full, filling_end}
+use Rattle.trie_filing.proofs.Filling.{filling_start, filling_counted, filling_next, filling_full, filling_end}
 use Rattle.trie_filing.proofs.fill.put_words.Goals as goal
 
 pub start-nodes-requires-clause-label_nonzero : goal.start-nodes-requires-clause-label_nonzero

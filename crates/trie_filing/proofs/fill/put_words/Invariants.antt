@@ -1,11 +1,7 @@
-use native.Mathlib.Omega.{arith}
-use mathlib.Core.Path.{◌≡◌, refl, ◌∙◌}
-use borrow.Author.Rules.{rules}
+use mathlib.Core.Path.{◌≡◌}
 use lib.ListN.{length}
 use Rattle.reader.specs.Places.{words_at, WordsAt}
-use Rattle.reader.specs.Turns.{word_turn}
-use Rattle.reader.specs.Turns.{word_room, words_after}
-use Rattle.trie_filing.proofs.Filling.{Filling, filling_start, filling_counted, filling_next, filling_full, filling_end}
+use Rattle.trie_filing.proofs.Filling.{Filling}
 use Rattle.trie_filing.proofs.fill.put_words.Given as goal
 
 abbrev pub invariant-loop-left : goal.invariant-loop-left
