@@ -165,7 +165,7 @@ TARGET = ROOT / "target"
 # The program where rt leaves it, and the copy that is run: rt puts aside what it made while it proves all again.
 MADE = ROOT / "crates" / "bureau" / "out" / "bureau"
 PROGRAM = TARGET / "bin" / "bureau"
-# The digests of what the program was built from and of the program.
+# The digests of what the program was built from and of the program, and the folder of the toolchain that built it.
 RECORD = TARGET / "bin" / "bureau.built"
 LOCK = TARGET / "bin" / "bureau.lock"
 # What rt said at the last build.
@@ -219,9 +219,11 @@ def named_toolchain():
 
 
 def is_built():
-    """Whether the program is there, as it was built from the sources as they are."""
+    """Whether the program is there, as it was built from the sources as they are, and the toolchain of its proofs is the one that is named."""
     try:
-        return RECORD.read_text().splitlines() == [sources_digest(), file_digest(PROGRAM)]
+        sources, program, kit = os.fsdecode(RECORD.read_bytes()).splitlines()
+        is_named = Path(kit, "KIT-ID").read_text().strip() == named_toolchain()
+        return is_named and (sources, program) == (sources_digest(), file_digest(PROGRAM))
     except (OSError, ValueError):
         return False
 
@@ -254,35 +256,42 @@ def build_lock():
 
 
 def build(lock):
-    see_toolchain()
+    kit = find_toolchain()
     sources = sources_digest()
     complain("building the proved program, which takes long where nothing is proved yet")
     prove(lock)
-    keep(sources)
+    keep(sources, kit)
 
 
-def keep(sources):
-    """Copies the program that rt left, and records it as built of these sources."""
+def keep(sources, kit):
+    """Copies the program that rt left, and records it as built of these sources by that toolchain."""
     replace_file(PROGRAM, MADE.read_bytes())
     PROGRAM.chmod(0o777 & ~current_mask())
-    replace_file(RECORD, f"{sources}\n{file_digest(PROGRAM)}\n".encode())
+    replace_file(RECORD, os.fsencode(f"{sources}\n{file_digest(PROGRAM)}\n{kit}\n"))
 
 
 def take():
     """Takes the program that `rt ci` has just proved and built of the sources as they are: `./test` asks for that."""
     with build_lock():
         if not is_built():
-            keep(sources_digest())
+            keep(sources_digest(), find_toolchain())
 
 
-def see_toolchain():
-    """Sees that the toolchain that toolchain.txt names is installed."""
+def find_toolchain():
+    """The folder of the installed toolchain, which has to be the one that toolchain.txt names."""
     named = named_toolchain()
     if shutil.which("rt") is None:
         raise Trouble(f"the proved program has to be built, and the toolchain is not installed: {named}, with its command rt")
-    installed = os.fsdecode(subprocess.run(["rt", "version"], stdin=subprocess.DEVNULL, stdout=subprocess.PIPE).stdout).strip()
+    installed = ask_rt("version")
     if installed != named:
         raise Trouble(f"the proved program has to be built with the toolchain {named}, and {installed} is installed")
+    return os.path.dirname(ask_rt("doc"))
+
+
+def ask_rt(word):
+    return os.fsdecode(subprocess.run(["rt", word], stdin=subprocess.DEVNULL, stdout=subprocess.PIPE).stdout).strip()
+
+
 def prove(lock):
     """Runs rt, which proves and builds the program and then runs it once. All that rt starts is in a group of its own, so that it can
     be stopped as a whole, and holds the lock."""
