@@ -13,7 +13,7 @@ use Rattle.rules.specs.Sizes.{most_states}
 use Rattle.rules.specs.Words.{is_in}
 use Rattle.rules.specs.Needed.{distinct}
 use Rattle.rules.specs.Kiss2.{Field, Says, names_in, state_names, inputs_in, place_in}
-use Rattle.theory.specs.Lists.{outcome, in_keep, get_d_in}
+use Rattle.theory.specs.Lists.{outcome, in_keep, get_or_in}
 use Rattle.theory.specs.Words.{in_is_in, is_in_in}
 use Rattle.theory.specs.Maximal.{distinct_apart}
 use Rattle.theory.specs.Kiss2.{as_many_names}
@@ -56,7 +56,7 @@ module _ (said : List Says) (ranks : List ℕ) (at : RanksAt ranks (names_in sai
   name j = get_or (names_in said) j []
 
   there : (j : ℕ) → j < length (names_in said) → name j ∈ names_in said
-  there j less = get_d_in (names_in said) j [] less
+  there j less = get_or_in (names_in said) j [] less
 
   rank : (j : ℕ) → j < length (names_in said) → get_or ranks j 0 ≡ suc (place_in (state_names said) (name j))
   rank j less = ap (λ p. get_or ranks p 0) (sym (ranking_of.names_once j less)) ∙ ranking_of.ranked (name j) (there j less)

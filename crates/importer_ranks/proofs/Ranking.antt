@@ -13,7 +13,7 @@ use Rattle.rules.specs.Sizes.{most_states}
 use Rattle.rules.specs.Words.{same, is_in}
 use Rattle.rules.specs.Needed.{distinct}
 use Rattle.rules.specs.Kiss2.{Field, place_in}
-use Rattle.theory.specs.Lists.{outcome, clash, of_keep, keep-length, get_d_in}
+use Rattle.theory.specs.Lists.{outcome, clash, of_keep, keep-length, get_or_in}
 use Rattle.theory.specs.Words.{same_true, same_refl, same_false, differ_same, in_is_in, is_in_in}
 use Rattle.theory.specs.Maximal.{Apart, distinct_apart, keep_append, distinct_new}
 use Rattle.theory.specs.Kiss2Units.{place_below, place_apart}
@@ -152,14 +152,14 @@ pub place_once : (l : List Field) → Apart l → (j : ℕ) → j < length l →
 place_once [] apart j less = absurd (omega arith)
 place_once (x ∷ l) (ahead, apart) zero less = rw (same_refl x)
 place_once (x ∷ l) (ahead, apart) (suc j) less =
-    rw (differ_same (ahead (get_or l j []) (get_d_in l j [] (omega arith)))) (ap suc (place_once l apart j (omega arith)))
+    rw (differ_same (ahead (get_or l j []) (get_or_in l j [] (omega arith)))) (ap suc (place_once l apart j (omega arith)))
 
 not_before : (l : List Field) → Apart l → (j : ℕ) → j < length l → ¬ (get_or l j [] ∈ take j l)
 not_before [] apart j less m = absurd (omega arith)
 not_before (x ∷ l) (ahead, apart) zero less m = absurd (Memᴰ.not-nil m)
 not_before (x ∷ l) (ahead, apart) (suc j) less m =
     elim (Memᴰ.cases_cons m) [
-      | inl e ↦ ahead (get_or l j []) (get_d_in l j [] (omega arith)) (sym e)
+      | inl e ↦ ahead (get_or l j []) (get_or_in l j [] (omega arith)) (sym e)
       | inr there ↦ not_before l apart j (omega arith) there
     ]
 
@@ -222,7 +222,7 @@ module _ (ranks₀ : List ℕ) (count ranked₀ : ℕ) where
               let apart : Apart names = rw once at (distinct_apart names) in
               let (now_at, now_counted) = r.so_far names order at once all counted in
               rw (← (order_next names order apart j inside))
-              (given names (order_to names order j) (get_or names j []) now_at (get_d_in names j [] inside) (place_once names apart j inside) now_counted);
+              (given names (order_to names order j) (get_or names j []) now_at (get_or_in names j [] inside) (place_once names apart j inside) now_counted);
         }
 
     pub ranking_done : count ≤ j → (names order : List Field) → RanksAt ranks₀ names order → distinct names ≡ names → count ≡ length names → ranked₀ ≡ length order

@@ -168,7 +168,7 @@ module _ {s : List ℕ} {from stop : ℕ} {r : Fields} (fields : FieldsAt s from
 
     pub line_bad : r.count ≢ 0 → r.count ≢ 1 → r.count ≢ 2 → r.count ≢ 4 → SaidAs s (line_says (part_at s from stop)) Bad
     unfolding line_says
-    line_bad not_None not_one not_two not_four =
+    line_bad not_none not_one not_two not_four =
         let few : r.count ≤ 5 = fields.few in
         record {
           told =

@@ -12,7 +12,7 @@ use Rattle.rules.specs.Lists.{◌∈◌, first}
 use Rattle.rules.specs.Sizes.{most_inputs}
 use Rattle.rules.specs.Words.{same, is_in}
 use Rattle.rules.specs.Kiss2.{Field, Term, is_about, place_in}
-use Rattle.theory.specs.Lists.{outcome, clash, first_some, none_first, get_d_in}
+use Rattle.theory.specs.Lists.{outcome, clash, first_some, none_first, get_or_in}
 use Rattle.theory.specs.Words.{both, same_true, same_refl, same_false, differ_same, in_is_in, is_in_in}
 use Rattle.importer_terms.specs.Entries.{unsaid, entry_place, next_mark, output_mark, EntriesAt, TermsOver}
 
@@ -129,5 +129,5 @@ pub entry_numbered : (nexts outputs : List ℕ) (names : List Field) (terms : Li
     → (get_or nexts (entry_place j i) 0 ≡ next_mark names (first (is_about (get_or names j []) i) terms))
     × (get_or outputs (entry_place j i) 0 ≡ output_mark (first (is_about (get_or names j []) i) terms))
 entry_numbered nexts outputs names terms at j less numbered i few =
-    let there : get_or names j [] ∈ names = get_d_in names j [] less in
+    let there : get_or names j [] ∈ names = get_or_in names j [] less in
     (rw numbered at (at.next_at (get_or names j []) there i few), rw numbered at (at.output_at (get_or names j []) there i few))

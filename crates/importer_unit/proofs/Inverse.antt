@@ -9,7 +9,7 @@ use lib.Seq.{get_or-set_same, get_or-set_other}
 use Rattle.rules.specs.Lists.{◌∈◌}
 use Rattle.rules.specs.Sizes.{most_states}
 use Rattle.rules.specs.Kiss2.{Field, place_in}
-use Rattle.theory.specs.Lists.{get_d_in}
+use Rattle.theory.specs.Lists.{get_or_in}
 use Rattle.theory.specs.Kiss2Units.{place_below, place_apart}
 use Rattle.importer_unit.specs.Numbered.{RanksIn, Ranking, NumberedAt}
 
@@ -64,7 +64,7 @@ module _ (ranks : List ℕ) (count : ℕ) (ranks_in : RanksIn ranks count) where
           ranked = r.ranked;
           inverse = λ q less.
               let name = get_or order q [] in
-              let named : name ∈ names = r.named name (get_d_in order q [] less) in
+              let named : name ∈ names = r.named name (get_or_in order q [] less) in
               let rank = r.ranked name named in
               let place : get_or ranks (place_in names name) 0 - 1 ≡ q = omega (arith, r.order_once q less) in
               let back = so_far.back apart (place_in names name) (omega (arith, place_below names name named)) in
@@ -76,8 +76,8 @@ module _ (ranks : List ℕ) (count : ℕ) (ranks_in : RanksIn ranks count) where
         apart a b below below' same =
             let one = get_or names a [] in
             let other = get_or names b [] in
-            let in_one : one ∈ names = get_d_in names a [] (omega arith) in
-            let in_other : other ∈ names = get_d_in names b [] (omega arith) in
+            let in_one : one ∈ names = get_or_in names a [] (omega arith) in
+            let in_other : other ∈ names = get_or_in names b [] (omega arith) in
             let once : place_in names one ≡ a = r.names_once a (omega arith) in
             let once' : place_in names other ≡ b = r.names_once b (omega arith) in
             let rank : get_or ranks a 0 ≡ suc (place_in order one) = ap (λ p. get_or ranks p 0) (sym once) ∙ r.ranked one in_one in

@@ -129,7 +129,7 @@ module _ (k : ℕ) (M : Machine) (few : k ≤ most_inputs) (state : ℕ → ℕ)
 
     -- Another one is queued behind the others.
     module _ (state' : ℕ → ℕ) (word' : ℕ → Word) (old_state : (j : ℕ) → j < tail → state' j ≡ state j) (old_word : (j : ℕ) → j < tail → word' j ≡ word j)
-        (new_state : state' tail ≡ M.next (state h) i) (new_IsWord : word' tail ≡ word h ++ (i ∷ [])) (unmet : (j : ℕ) → j < tail → state j ≢ M.next (state h) i) where
+        (new_state : state' tail ≡ M.next (state h) i) (new_word : word' tail ≡ word h ++ (i ∷ [])) (unmet : (j : ℕ) → j < tail → state j ≢ M.next (state h) i) where
       -- what holds of the old entries and of the new one holds of all
       entries : {P : ℕ → Type 0} → ((j : ℕ) → j < tail → P j) → P tail → (j : ℕ) → j < suc tail → P j
       entries old new j in_j = elim (ℕ_discrete j tail) [ yes e ↦ rw e new | no ne ↦ old j (omega arith) ]
@@ -149,10 +149,10 @@ module _ (k : ℕ) (M : Machine) (few : k ≤ most_inputs) (state : ℕ → ℕ)
             some = omega arith;
             start = old_state 0 s.some ∙ s.start;
             start_word = old_word 0 s.some ∙ s.start_word;
-            valid = entries (λ j in_j. rw (old_word j in_j) (s.valid j in_j)) (rw new_IsWord (valid_append k (word h) (i ∷ []) (s.valid h in_h) (input, tt)));
+            valid = entries (λ j in_j. rw (old_word j in_j) (s.valid j in_j)) (rw new_word (valid_append k (word h) (i ∷ []) (s.valid h in_h) (input, tt)));
             leads = entries
                 (λ j in_j. rw (old_word j in_j, old_state j in_j) (s.leads j in_j))
-                (rw (new_IsWord, new_state, after_append M 0 (word h) (i ∷ [])) (ap (λ q. M.next q i) (s.leads h in_h)));
+                (rw (new_word, new_state, after_append M 0 (word h) (i ∷ [])) (ap (λ q. M.next q i) (s.leads h in_h)));
             apart = λ a j less in_j.
                 elim (ℕ_discrete j tail) [
                   | yes e ↦ rw (e, new_state, old_state a (omega arith)) (unmet a (omega arith))
@@ -160,14 +160,14 @@ module _ (k : ℕ) (M : Machine) (few : k ≤ most_inputs) (state : ℕ → ℕ)
                 ];
             rises = λ a j less in_j.
                 elim (ℕ_discrete j tail) [
-                  | yes e ↦ rw (e, new_IsWord, old_word a (omega arith)) (met_before a (omega arith))
+                  | yes e ↦ rw (e, new_word, old_word a (omega arith)) (met_before a (omega arith))
                   | no ne ↦ rw (old_word a (omega arith), old_word j (omega arith)) (s.rises a j less (omega arith))
                 ];
             met = λ j some in_j.
                 elim (ℕ_discrete j tail) [
                   | yes e ↦
                       rw e
-                      (record { parent = h; input = i; earlier = in_h; small = input; spelt = new_IsWord ∙ ap (λ (w : Word). w ++ (i ∷ [])) (sym (old_word h in_h)); before = omega arith })
+                      (record { parent = h; input = i; earlier = in_h; small = input; spelt = new_word ∙ ap (λ (w : Word). w ++ (i ∷ [])) (sym (old_word h in_h)); before = omega arith })
                   | no ne ↦
                       let old : j < tail = omega arith in
                       let m = s.met j some old in
@@ -190,7 +190,7 @@ module _ (k : ℕ) (M : Machine) (few : k ≤ most_inputs) (state : ℕ → ℕ)
                         place = tail;
                         inside = omega arith;
                         leads = rw (new_state, old_state h in_h);
-                        no_later = inl (rw (new_IsWord, old_word h in_h));
+                        no_later = inl (rw (new_word, old_word h in_h));
                       })
                 ];
           }

@@ -8,7 +8,7 @@ use mathlib.Core.List.{[], ◌∷◌, map, flat_map}
 use Rattle.std.proofs.lemmas.Bool.{false≢true}
 use Rattle.rules.specs.Lists.{◌∈◌}
 use Rattle.rules.specs.Kiss2.{Field, is_bit, is_cube, is_output, bits_of, opened, output_value}
-use Rattle.theory.specs.Lists.{outcome, clash, all_true, all_of, get_d_in, in_flat_map, of_flat_map, Rising, map_rising, flat_map_rising}
+use Rattle.theory.specs.Lists.{outcome, clash, all_true, all_of, get_or_in, in_flat_map, of_flat_map, Rising, map_rising, flat_map_rising}
 use Rattle.theory.specs.Words.{both}
 
 -- the bit of i that counts 2 ^ p
@@ -257,7 +257,7 @@ pub output_bits : (bits : Field) → is_output bits ≡ true → (j : ℕ) → j
 output_bits bits e j less =
     let has_it : output_value bits ∈ opened bits = rw (output_opened bits e) (Memᴰ.head refl) in
     elim (((opened_exactly bits (no_dashes bits e) (output_value bits)).0 has_it).1 j less) [
-      | inl dash ↦ clash (all_true is_bit e (get_d_in bits j 0 less)) (rw dash)
+      | inl dash ↦ clash (all_true is_bit e (get_or_in bits j 0 less)) (rw dash)
       | inr is ↦ is
     ]
   where

@@ -80,8 +80,8 @@ module _ {A : Type 0} (f : File) {read : Reader A} {Rule : A → Type 0} {bytes 
 
     front_begun : (front back : List ℕ) → l ≡ front ++ back → Going Nothing read front → Begun Good Seam (take (length front) l)
     front_begun front back parts g =
-        let front_Bytes = bytes_left front back (rw parts at are_bytes) in
-        rw (front_is front back parts) (g.rest, taken_good (front ++ g.rest) g.thing (bytes_append front_Bytes g.are_bytes) g.whole)
+        let front_are_bytes = bytes_left front back (rw parts at are_bytes) in
+        rw (front_is front back parts) (g.rest, taken_good (front ++ g.rest) g.thing (bytes_append front_are_bytes g.are_bytes) g.whole)
 
     -- Where a reading stopped for want of bytes the file is cut short,
     stop_short : (fault : Fault) (x : ℕ) → read 0 l ≡ faulty fault x → (s : Stop Seam Of Nothing read 0 l fault x) → Ended Seam Of 0 l s.front fault → Short Good Seam l

@@ -197,10 +197,10 @@ module _ {A : Type 0} (before : A → A → Type 0) (one_way : OneWay before) (t
       ]
 
 -- What stands at a place inside a list is an element of it.
-pub get_d_in : {A : Type 0} (l : List A) (j : ℕ) (d : A) → j < length l → get_or l j d ∈ l
-get_d_in [] j d h = absurd (omega arith)
-get_d_in (x ∷ l) zero d h = Memᴰ.head refl
-get_d_in (x ∷ l) (suc j) d h = Memᴰ.tail (get_d_in l j d (omega arith))
+pub get_or_in : {A : Type 0} (l : List A) (j : ℕ) (d : A) → j < length l → get_or l j d ∈ l
+get_or_in [] j d h = absurd (omega arith)
+get_or_in (x ∷ l) zero d h = Memᴰ.head refl
+get_or_in (x ∷ l) (suc j) d h = Memᴰ.tail (get_or_in l j d (omega arith))
 
 -- Whether some element of a list has a property.
 pub some_in : {A : Type 0} {P : A → Type 0} → ((x : A) → Dec (P x)) → (l : List A) → Dec ((x : A) × (x ∈ l) × P x)

@@ -6,7 +6,7 @@ use Rattle.std.proofs.Math.Arith.{digits_lt}
 use Rattle.rules.specs.Words.{Word, Valid}
 use Rattle.rules.specs.Machines.{Machine, Complete, Table, after, answer_from, machine_of}
 use Rattle.theory.specs.Sized.{SizedTable}
-use Rattle.theory.specs.Lists.{get_d_in}
+use Rattle.theory.specs.Lists.{get_or_in}
 
 module _ (M : Machine) where
   -- Two words one after the other lead to where the second leads from where the first does.
@@ -40,5 +40,5 @@ pub golden_complete : {k n : ℕ} {t : Table} → SizedTable k n t → Complete 
 golden_complete {k} {t} sized =
     record {
       start = sized.some_state;
-      closed = λ q i h b. sized.next_states _ (get_d_in t (q * k + i) (0, 0) (rw sized.entries (digits_lt h b)));
+      closed = λ q i h b. sized.next_states _ (get_or_in t (q * k + i) (0, 0) (rw sized.entries (digits_lt h b)));
     }

@@ -8,7 +8,7 @@ use mathlib.Core.List.{List, []}
 use lib.ListN.{length, get_or}
 use Rattle.rules.specs.Lists.{◌∈◌, placed, any}
 use Rattle.rules.specs.Words.{Word, same}
-use Rattle.theory.specs.Lists.{outcome, clash, any-true, any_false, first-none, none_first, none_not_some, some_injective, keep-length, placed_length, get_d_in, of_keep, in_placed, of_placed, At, at_in, in_at}
+use Rattle.theory.specs.Lists.{outcome, clash, any-true, any_false, first-none, none_first, none_not_some, some_injective, keep-length, placed_length, get_or_in, of_keep, in_placed, of_placed, At, at_in, in_at}
 use Rattle.theory.specs.Words.{same_refl, same_true}
 use Rattle.reader.specs.Places.{word_at, after_word, words_at, word_place, WordsAt}
 use Rattle.reader.specs.Turns.{words_count}
@@ -23,9 +23,9 @@ word_at_lem s p k zero i w stand at = none_not_some at
 word_at_lem s p k (suc c) zero w stand at = (stand.0.inside, some_injective at)
 word_at_lem s p k (suc c) (suc i) w stand at = word_at_lem s (after_word s p) k c i w stand.1 at
 
-in_get_d : {A : Type 0} (d : A) {x : A} {l : List A} → x ∈ l → (j : ℕ) × (j < length l) × (get_or l j d ≡ x)
-in_get_d d (Memᴰ.head h) = (0, omega arith, sym h)
-in_get_d d (Memᴰ.tail m) = let (j, less, e) = in_get_d d m in (suc j, omega arith, e)
+in_get_or : {A : Type 0} (d : A) {x : A} {l : List A} → x ∈ l → (j : ℕ) × (j < length l) × (get_or l j d ≡ x)
+in_get_or d (Memᴰ.head h) = (0, omega arith, sym h)
+in_get_or d (Memᴰ.tail m) = let (j, less, e) = in_get_or d m in (suc j, omega arith, e)
 
 -- there are at most as many first places as words
 pub firsts_few : (s : List ℕ) (p c : ℕ) (numbers places : List ℕ) (n : ℕ) → FirstPlaces s p c numbers places n → n ≤ c
@@ -39,7 +39,7 @@ module _ (s : List ℕ) (p k c : ℕ) {numbers places : List ℕ} {n : ℕ} (sta
 
   module _ (e : ℕ) (less : e < n) where
     one_first : get_or (firsts ws) e (0, []) ∈ placed ws
-    one_first = (of_keep (is_first ws) (placed ws) (get_d_in (firsts ws) e (0, []) (omega (arith, once.counted)))).0
+    one_first = (of_keep (is_first ws) (placed ws) (get_or_in (firsts ws) e (0, []) (omega (arith, once.counted)))).0
 
     -- the word at the first place number e
     pub first_place : Whole s (get_or places e 0) × (word_at s (get_or places e 0) ≡ (get_or (firsts ws) e (0, [])).1)
@@ -58,7 +58,7 @@ module _ (s : List ℕ) (p k c : ℕ) {numbers places : List ℕ} {n : ℕ} (sta
       elim (outcome (any (λ (i, v). same w v) (firsts ws))) [
         | inl some ↦
             let (x, in_firsts, alike) = any-true (λ (i, v). same w v) (firsts ws) some in
-            let (j, below, at) = in_get_d (0, []) in_firsts in
+            let (j, below, at) = in_get_or (0, []) in_firsts in
             let less : j < n = omega (arith, once.counted) in
             (j, less, (first_place j less).1 ∙ ap (λ (y : ℕ × Word). y.1) at ∙ sym (same_true w x.1 alike))
         | inr none ↦
