@@ -345,19 +345,19 @@ def ask(operation, given, bound=None, has_output=False):
     with tempfile.TemporaryDirectory(prefix="hegdorvin-") as folder:
         names = []
         for file in given:
-            name = os.path.join(folder, file.sort)
-            Path(name).write_bytes(file.data)
-            names.append(name)
+            Path(folder, file.sort).write_bytes(file.data)
+            names.append(file.sort)
         if bound is not None:
             names.append(str(bound))
         if has_output:
-            names.append(os.path.join(folder, "output"))
-        ran = subprocess.run([program, operation, *names], stdin=subprocess.DEVNULL, capture_output=True)
+            names.append("output")
+        # the names are bare: that of the folder may be no text, and the program takes names of text alone
+        ran = subprocess.run([program, operation, *names], cwd=folder, stdin=subprocess.DEVNULL, capture_output=True)
         line = ran.stdout.decode("ascii", errors="replace")
         words = line.split()
         if ran.returncode != 0 or not words or words[0] not in STATUS or not line.endswith("\n"):
             raise Trouble(no_answer(ran.returncode))
-        written = Path(names[-1]).read_bytes() if words[0] in WRITTEN else b""
+        written = Path(folder, names[-1]).read_bytes() if words[0] in WRITTEN else b""
         return words, written
 
 
