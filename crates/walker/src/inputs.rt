@@ -31,3 +31,13 @@ pub fn input_at(bytes: &[u8], word: usize, inputs: u8, step: usize) -> Input
 {
     Input::numbered(input_byte(bytes, word, step))
 }
+
+// The inputs of the word at a place.
+pub fn word_inputs(bytes: &[u8], word: usize) -> &[u8]
+    requires { Whole bytes.now word }
+    ensures { result.now ≡ word_at bytes.now word }
+{
+    let first = word + 1;
+    let end = first + word_length(bytes, word);
+    &bytes[first..end]
+}
