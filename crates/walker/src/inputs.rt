@@ -1,6 +1,6 @@
 // Words, each behind the byte that says its length.
 ghost use Rattle.std.specs.Prelude.{◌≡◌, ◌≤◌, ◌<◌, length, get_or};
-ghost use Rattle.reader.specs.Places.{word_at, WordAt};
+ghost use Rattle.reader.specs.Places.{word_at, after_word, WordAt};
 ghost use Rattle.walker.specs.Walks.{Whole};
 
 use numbers::wide;
@@ -12,6 +12,14 @@ pub fn word_length(bytes: &[u8], word: usize) -> usize
     ensures { (result ≡ length (word_at bytes.now word)) × (result ≡ get_or bytes.now word 0) × (result < 256) }
 {
     wide(bytes[word])
+}
+
+// The place after the word at a place.
+pub fn word_end(bytes: &[u8], word: usize) -> usize
+    requires { Whole bytes.now word }
+    ensures { (result ≡ after_word bytes.now word) × (result ≤ length bytes.now) }
+{
+    word + 1 + word_length(bytes, word)
 }
 
 // The input that the word at a place has at a step, as a byte.
@@ -37,7 +45,5 @@ pub fn word_inputs(bytes: &[u8], word: usize) -> &[u8]
     requires { Whole bytes.now word }
     ensures { result.now ≡ word_at bytes.now word }
 {
-    let first = word + 1;
-    let end = first + word_length(bytes, word);
-    &bytes[first..end]
+    &bytes[word + 1..word_end(bytes, word)]
 }

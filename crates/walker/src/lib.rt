@@ -9,6 +9,6 @@ mod records;
 mod table;
 
 pub use answers::{answer_alike, difference, outputs_agree, state_after, unit_difference};
-pub use inputs::{input_at, input_byte, word_inputs, word_length};
+pub use inputs::{input_at, input_byte, word_end, word_inputs, word_length};
 pub use records::{record_end, recorded_difference, recorded_output};
 pub use table::{State, Table};

@@ -1,7 +1,6 @@
-use Rattle.std.proofs.Common.{◌≡◌, ◌+◌, ◌-◌, arith}
-use Rattle.reader.specs.Places.{word_at}
+use Rattle.std.proofs.Common.{refl}
+use Rattle.reader.specs.Turns.{word_part}
 use Rattle.walker.proofs.inputs.word_inputs.Goals as goal
 
 pub returns : goal.returns
-unfolding word_at
-returns c = let n : c.args.word + 1 + c.word_length.result - (c.args.word + 1) ≡ c.word_length.result = omega arith in rw (n, c.word_length.ensures.1)
+returns c = rw c.word_end.ensures.0 (word_part c.args.bytes.now c.args.word _ (refl))
