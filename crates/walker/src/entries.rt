@@ -1,6 +1,6 @@
 // The entries of a table.
 ghost use Rattle.std.specs.Prelude.{◌≡◌, ◌+◌, ◌*◌, ◌≤◌, ◌<◌, length};
-ghost use Rattle.reader.specs.Places.{output_width, entry_width, output_at, TableAt};
+ghost use Rattle.reader.specs.Places.{output_width, entry_width, output_at, machine_at, TableAt};
 ghost use Rattle.walker.specs.Machines.{machine_in};
 
 use crate::table::{State, Table};
@@ -30,7 +30,7 @@ fn product(a: u8, b: u8) -> usize
 impl<'a, S: State> Table<'a, S> {
     pub fn standing(bytes: &'a [u8], place: usize, inputs: u8, states: u8) -> Table<'a, S>
         requires { TableAt bytes.now place inputs states }
-        ensures { (result.bytes.now ≡ bytes.now) × (result.place ≡ place) × (result.inputs ≡ inputs) × (result.states ≡ states) }
+        ensures { (result.bytes.now ≡ bytes.now) × (result.place ≡ place) × (result.inputs ≡ inputs) × (result.states ≡ states) × (machine_in result ≡ machine_at bytes.now place inputs states) }
     {
         Table {
             bytes,
