@@ -3,7 +3,7 @@ use Prim.Native.Nat.{ℕ, zero, suc, ◌+◌, ◌-◌, ◌≤◌, ◌<◌}
 use native.Mathlib.Omega.{arith}
 use mathlib.Core.Path.{◌≡◌, refl, sym, ◌∙◌, ap}
 use mathlib.Core.List.{List, [], ◌∷◌, ◌++◌, map, append_assoc, append-nil}
-use lib.ListN.{length, get_or}
+use lib.ListN.{length}
 use Rattle.std.specs.Prelude.{Option, Some, None}
 use Rattle.rules.specs.Lists.{sum}
 use Rattle.rules.specs.Words.{Word}
@@ -82,14 +82,14 @@ module _ (s : List ℕ) (p k c : ℕ) where
       now_done = x.1.split ∙ rw turn.words (sym (append_assoc x.1.done (word_at s word ∷ []) (words_at s (after_word s word) (c - i - 1))))
 
       module _ (label' first' next' : List ℕ) (r : Option (ℕ × ℕ)) (inserts : Inserting label first next nodes (word_at s word) label' first' next' r) where
-        pub filling_next : (node more n : ℕ) → n ≡ get_or s word 0 → r ≡ Some (node, more) → FillingAt (i + 1) (word + 1 + n) label' first' next' more
-        filling_next node more n place is =
+        pub filling_next : (node more : ℕ) → r ≡ Some (node, more) → FillingAt (i + 1) (after_word s word) label' first' next' more
+        filling_next node more is =
             let (at, counted, holds) = rw is at (inserts (holding x.1.done) x.1.holds x.1.counted) in
             let less : c - (i + 1) ≡ c - i - 1 = omega arith in (
-              rw (less, place) turn.rest,
+              rw less turn.rest,
               record {
                 done = x.1.done ++ (word_at s word ∷ []);
-                split = rw (less, place) now_done;
+                split = rw less now_done;
                 holds = rw (holding_snoc x.1.done (word_at s word)) holds;
                 counted = rw (holding_snoc x.1.done (word_at s word)) counted;
               },

@@ -220,16 +220,16 @@ module _ (s : List ℕ) (p k c : ℕ) where
         let few = x.1.few in
         (omega arith, omega arith, omega arith, omega arith)
 
-    pub sifting_next : i < c → c ≤ length numbers → c ≤ length places → (seen : Bool) (numbers' places' marks' : List ℕ) (r len : ℕ)
+    pub sifting_next : i < c → c ≤ length numbers → c ≤ length places → (seen : Bool) (numbers' places' marks' : List ℕ) (r : ℕ)
         → ((ws : List Word) → Has (holding all) (word_at s word) → Noted (holding all) (marks_of ws) marks → (seen ≡ is_in (word_at s word) ws) × Noted (holding all) (marks_of (word_at s word ∷ ws)) marks')
-        → StoredOf seen n i word numbers places numbers' places' r → len ≡ get_or s word 0 → SiftingAt (i + 1) (word + 1 + len) r numbers' places' marks'
-    sifting_next some long long' seen numbers' places' marks' r len told stored place =
+        → StoredOf seen n i word numbers places numbers' places' r → SiftingAt (i + 1) (after_word s word) r numbers' places' marks'
+    sifting_next some long long' seen numbers' places' marks' r told stored =
         let turn = word_turn s word k (c - i) (omega arith) x.0 in
         let less : c - (i + 1) ≡ c - i - 1 = omega arith in
         let here : Sifting s p all (word_at s word ∷ words_at s (after_word s word) (c - i - 1)) (holding all) i word n numbers places marks = rw turn.words at x.1 in
         let few = x.1.few in
         let (is, noted) = told here.seen (sifted_has s p all (words_at s (after_word s word) (c - i - 1)) (word_at s word) (holding all) i word n numbers places marks here refl) here.noted in
-        (rw (less, place) turn.rest, rw (less, place) (sifted s p all (words_at s (after_word s word) (c - i - 1)) (word_at s word) (holding all) i word n numbers places marks here seen numbers' places' marks' r (omega arith) (omega arith) is noted stored))
+        (rw less turn.rest, rw less (sifted s p all (words_at s (after_word s word) (c - i - 1)) (word_at s word) (holding all) i word n numbers places marks here seen numbers' places' marks' r (omega arith) (omega arith) is noted stored))
 
     -- all words are passed
     pub sifting_end : c ≤ i → FirstPlaces s p c numbers places n

@@ -11,7 +11,7 @@ ghost use Rattle.trie_filing.specs.Distinct.{FirstPlaces, StoredOf};
 
 use crate::walks::walk_word;
 use trie::{Nodes, clear_marks, is_marked, mark};
-use walker::word_length;
+use walker::word_end;
 
 // Whether the word at a place, which the trie has, was seen before. It is seen from now on.
 fn seen_before(bytes: &[u8], word: usize, nodes: Nodes, marks: &mut [u8]) -> bool
@@ -73,7 +73,7 @@ pub fn find_firsts(
     for i in 0..count {
         let seen = seen_before(bytes, word, nodes, marks);
         n = store_first(seen, numbers, places, n, i, word);
-        word = word + 1 + word_length(bytes, word);
+        word = word_end(bytes, word);
     }
     n
 }

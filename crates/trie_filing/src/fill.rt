@@ -7,7 +7,7 @@ ghost use Rattle.trie.specs.Model.{Trie, size, holding};
 ghost use Rattle.trie.specs.Holds.{Holds, Counted, InsertOf};
 
 use trie::{insert_at, start};
-use walker::word_length;
+use walker::{word_end, word_inputs};
 
 // Puts the word at a place into the trie, behind the word of a node: the node of its end, and how many nodes there are then; or none,
 // where there is no room.
@@ -24,8 +24,7 @@ pub fn put_word(
     requires counted { Counted label.old first.old next.old nodes × (node < nodes) }
     ensures { (t : Trie) → Holds t label.old first.old next.old → nodes ≡ size t → InsertOf t node (word_at bytes.now word) label.new first.new next.new result }
 {
-    let end = word + 1 + word_length(bytes, word);
-    insert_at(label, first, next, nodes, node, &bytes[word + 1..end])
+    insert_at(label, first, next, nodes, node, word_inputs(bytes, word))
 }
 
 // Puts the words from a place on into an empty trie. Its arrays have a node for each input of them, so there is room.
@@ -50,6 +49,6 @@ pub fn put_words(
             return;
         };
         nodes = more;
-        word = word + 1 + word_length(bytes, word);
+        word = word_end(bytes, word);
     }
 }

@@ -18,19 +18,11 @@ store_first-n-requires-clause-n_in_bounds c = let h = sifting_room c.args.bytes.
 pub store_first-n-requires-clause-number_bound : goal.store_first-n-requires-clause-number_bound
 store_first-n-requires-clause-number_bound c = let h = sifting_room c.args.bytes.now c.args.place c.args.inputs c.args.count c.loop-i.i c.loop-i.word c.loop-i.n c.loop-i.numbers c.loop-i.places c.loop-i.marks c.loop-i.invariant c.loop-i-test.true (omega (arith, c.requires.count_in_bounds.0, c.loop-i.auto.numbers)) (omega (arith, c.requires.count_in_bounds.1, c.loop-i.auto.places)) c.requires.bytes_len_bound c.requires.words_at in (h.2, h.3)
 
-pub overflow_add-word : goal.overflow_add-word
-overflow_add-word c = let h = sifting_inside c.args.bytes.now c.args.place c.args.inputs c.args.count c.loop-i.i c.loop-i.word c.loop-i.n c.loop-i.numbers c.loop-i.places c.loop-i.marks c.loop-i.invariant c.loop-i-test.true in
-    omega (arith, h, c.requires.bytes_len_bound)
-
-pub word_length-requires : goal.word_length-requires
-word_length-requires c = sifting_inside c.args.bytes.now c.args.place c.args.inputs c.args.count c.loop-i.i c.loop-i.word c.loop-i.n c.loop-i.numbers c.loop-i.places c.loop-i.marks c.loop-i.invariant c.loop-i-test.true
-
-pub overflow_add-word-in-loop-i : goal.overflow_add-word-in-loop-i
-overflow_add-word-in-loop-i c = let h = sifting_inside c.args.bytes.now c.args.place c.args.inputs c.args.count c.loop-i.i c.loop-i.word c.loop-i.n c.loop-i.numbers c.loop-i.places c.loop-i.marks c.loop-i.invariant c.loop-i-test.true in
-    omega (arith, h, c.requires.bytes_len_bound, c.word_length.ensures.1)
+pub word_end-word-requires : goal.word_end-word-requires
+word_end-word-requires c = sifting_inside c.args.bytes.now c.args.place c.args.inputs c.args.count c.loop-i.i c.loop-i.word c.loop-i.n c.loop-i.numbers c.loop-i.places c.loop-i.marks c.loop-i.invariant c.loop-i-test.true
 
 pub loop-i-preserved : goal.loop-i-preserved
-loop-i-preserved c = sifting_next c.args.bytes.now c.args.place c.args.inputs c.args.count c.loop-i.i c.loop-i.word c.loop-i.n c.loop-i.numbers c.loop-i.places c.loop-i.marks c.loop-i.invariant c.loop-i-test.true (omega (arith, c.requires.count_in_bounds.0, c.loop-i.auto.numbers)) (omega (arith, c.requires.count_in_bounds.1, c.loop-i.auto.places)) c.seen_before-seen.result _ _ _ _ _ (λ ws. c.seen_before-seen.ensures _ ws c.requires.holds) c.store_first-n.ensures c.word_length.ensures.1
+loop-i-preserved c = rw c.word_end-word.ensures.0 (sifting_next c.args.bytes.now c.args.place c.args.inputs c.args.count c.loop-i.i c.loop-i.word c.loop-i.n c.loop-i.numbers c.loop-i.places c.loop-i.marks c.loop-i.invariant c.loop-i-test.true (omega (arith, c.requires.count_in_bounds.0, c.loop-i.auto.numbers)) (omega (arith, c.requires.count_in_bounds.1, c.loop-i.auto.places)) c.seen_before-seen.result _ _ _ _ (λ ws. c.seen_before-seen.ensures _ ws c.requires.holds) c.store_first-n.ensures)
 
 pub returns : goal.returns
 returns c = sifting_end c.args.bytes.now c.args.place c.args.inputs c.args.count c.loop-i.i c.loop-i.word c.loop-i.n c.loop-i.numbers c.loop-i.places c.loop-i.marks c.loop-i.invariant c.loop-i-test.false

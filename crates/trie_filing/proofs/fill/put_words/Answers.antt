@@ -14,17 +14,11 @@ put_word-requires-clause-counted c = filling_counted c.loop.invariant.1
 pub returns-in_default : goal.returns-in_default
 returns-in_default c = filling_full c.args.bytes.now c.args.place c.args.inputs c.args.count _ _ _ _ _ _ c.loop.invariant c.loop-test.true c.put_word.new.label c.put_word.new.first c.put_word.new.next _ c.put_word.ensures (omega (arith, c.requires.count_in_bounds.0, c.put_word.auto.label, c.loop.auto.label, c.start-nodes.auto.label)) c.in_default.is
 
-pub overflow_add-word : goal.overflow_add-word
-overflow_add-word c = let h = filling_inside c.args.bytes.now c.args.place c.args.inputs c.args.count _ _ _ _ _ _ c.loop.invariant c.loop-test.true in omega arith
-
-pub word_length-requires : goal.word_length-requires
-word_length-requires c = filling_inside c.args.bytes.now c.args.place c.args.inputs c.args.count _ _ _ _ _ _ c.loop.invariant c.loop-test.true
-
-pub overflow_add-word-in-loop : goal.overflow_add-word-in-loop
-overflow_add-word-in-loop c = let h = filling_inside c.args.bytes.now c.args.place c.args.inputs c.args.count _ _ _ _ _ _ c.loop.invariant c.loop-test.true in omega (arith, c.word_length.ensures.1)
+pub word_end-word-requires : goal.word_end-word-requires
+word_end-word-requires c = filling_inside c.args.bytes.now c.args.place c.args.inputs c.args.count _ _ _ _ _ _ c.loop.invariant c.loop-test.true
 
 pub loop-preserved : goal.loop-preserved
-loop-preserved c = filling_next c.args.bytes.now c.args.place c.args.inputs c.args.count _ _ _ _ _ _ c.loop.invariant c.loop-test.true _ _ _ _ c.put_word.ensures _ _ _ c.word_length.ensures.1 c.in-Some.is
+loop-preserved c = rw c.word_end-word.ensures.0 (filling_next c.args.bytes.now c.args.place c.args.inputs c.args.count _ _ _ _ _ _ c.loop.invariant c.loop-test.true _ _ _ _ c.put_word.ensures _ _ c.in-Some.is)
 
 pub returns : goal.returns
 returns c = filling_end c.args.bytes.now c.args.place c.args.inputs c.args.count _ _ _ _ _ _ c.loop.invariant c.loop-test.false
