@@ -1,11 +1,11 @@
 -- Laws of the cover words, and that what is behind them are the needed words.
-use Prim.Native.Nat.{ℕ, suc, ◌+◌, ◌-◌, ◌≤◌, ◌<◌}
+use Prim.Native.Nat.{ℕ, suc, ◌-◌, ◌≤◌, ◌<◌}
 use native.Mathlib.Omega.{arith}
 use mathlib.Core.Path.{◌≡◌, refl, sym, ◌∙◌, ap}
 use mathlib.Core.Logic.{◌⊎◌, inl, inr}
 use mathlib.Core.List.Memᴰ
 use mathlib.Core.List.{List, [], ◌++◌}
-use lib.ListN.{length, get_or}
+use lib.ListN.{length}
 use Rattle.std.specs.Prelude.{Option, Some, None}
 use Rattle.rules.specs.Lists.{◌∈◌}
 use Rattle.rules.specs.Sizes.{bound_of}
@@ -15,7 +15,7 @@ use Rattle.rules.specs.Operations.{fine, read_dossier}
 use Rattle.rules.specs.Needed.{IsNeeded}
 use Rattle.theory.specs.Outcomes.{fine_injective}
 use Rattle.reader.specs.declared.DossierShape.{DossierShape}
-use Rattle.reader.specs.Places.{word_at, words_at, WordsAt}
+use Rattle.reader.specs.Places.{word_at, after_word, words_at, WordsAt}
 use Rattle.reader.specs.Turns.{word_turn, words_end}
 use Rattle.reader.specs.Standing.{DossierStands}
 use Rattle.soundness.specs.Lent.{Lent}
@@ -112,12 +112,12 @@ module _ (k most : ℕ) (W : Word → Type 0) (all : List Word) where
         let (t', grown, over) = rw is at (grows f.trie f.holds f.counted f.marked) in
         (t', grows_then f.grown (grows_wider wanted grown), over)
 
-    pub covering_next : (n count₁ : ℕ) → n ≡ get_or s p 0 → r ≡ Some count₁ → Covering k most W all (words_at s (p + 1 + n) (c - 1)) label₁ first₁ next₁ done₁ count₁
-    covering_next n count₁ place is =
+    pub covering_next : (count₁ : ℕ) → r ≡ Some count₁ → Covering k most W all (words_at s (after_word s p) (c - 1)) label₁ first₁ next₁ done₁ count₁
+    covering_next count₁ is =
         let g : Grew k W (Behind k most W (word_at s p)) f.trie label₁ first₁ next₁ done₁ count₁ = rw is at (grows f.trie f.holds f.counted f.marked) in
         let turn = (word_turn s p k c some stand).words in
         let grown = grows_wider wanted g.grown in
-        rw place (record {
+        record {
           trie = g.trie;
           holds = g.holds;
           counted = g.counted;
@@ -133,7 +133,7 @@ module _ (k most : ℕ) (W : Word → Type 0) (all : List Word) where
                     ]
                 | inr there ↦ inr (λ w b. grows_has grown w (there w b))
               ];
-        })
+        }
 
 -- The needed words of the dossier d, whose separating words stand at the first n places.
 module _ (s : List ℕ) (x : DossierShape) (lent : Lent s x) (places : List ℕ) (n : ℕ) (listed : Listed s places n (words_at s x.separating x.separators))

@@ -15,7 +15,7 @@ use middles::longest_middle;
 use reader::DossierShape;
 use trie::{Nodes, clear_marks, start};
 use trie_filing::{find_firsts, put_word, put_words};
-use walker::word_length;
+use walker::word_end;
 
 // Grows all that is needed behind the cover word at a place, where middles may have `left` inputs.
 fn grow_cover(
@@ -66,7 +66,7 @@ fn grow_covers(
         nodes = grow_cover(
             bytes, word, inputs, places, n, label, first, next, done, nodes, left,
         )?;
-        word = word + 1 + word_length(bytes, word);
+        word = word_end(bytes, word);
     }
     Some(nodes)
 }

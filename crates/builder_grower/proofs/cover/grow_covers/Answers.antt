@@ -2,7 +2,7 @@ use Prim.Native.Nat.{◌+◌, ◌-◌}
 use mathlib.Core.Path.{◌≡◌}
 use native.Mathlib.Omega.{arith}
 use mathlib.Core.Path.{sym, ◌∙◌}
-use Rattle.reader.specs.Turns.{word_turn, word_room, words_after}
+use Rattle.reader.specs.Turns.{word_turn}
 use Rattle.builder_grower.proofs.Covering.{covering_start, covering_ready, covering_full, covering_next, grown_full, grown_nodes, listed_separators}
 use Rattle.soundness.proofs.Sized.{bound_near}
 use Rattle.builder_grower.proofs.cover.grow_covers.Goals as goal
@@ -34,21 +34,15 @@ pub returns-in_err-nodes : goal.returns-in_err-nodes
 returns-in_err-nodes c = λ d reads. rw c.from_residual.ensures (grown_full _ _ c.requires.lent.0 _ _ c.requires.lent.2 _ c.longest_middle-left.ensures.0 d reads c.grow_cover.new.label (omega (arith, c.grow_cover.auto.label, c.loop.auto.label, c.start-nodes.auto.label, c.requires.label_len.0))
     (covering_full _ _ _ _ _ _ _ (omega (arith, c.loop-test.true)) c.loop.invariant.0 _ _ _ _ _ c.loop.invariant.1 _ _ _ _ _ c.grow_cover.ensures c.in_err-nodes.was))
 
-pub overflow_add-word : goal.overflow_add-word
-overflow_add-word c = let h = (word_turn _ _ _ (c.args.x.covers - c.loop.counter) (omega (arith, c.loop-test.true)) c.loop.invariant.0).here.inside in omega (arith, h, c.requires.lent.0.stands.size)
-
-pub word_length-requires : goal.word_length-requires
-word_length-requires c = (word_turn _ _ _ (c.args.x.covers - c.loop.counter) (omega (arith, c.loop-test.true)) c.loop.invariant.0).here.inside
-
-pub overflow_add-word-in-loop : goal.overflow_add-word-in-loop
-overflow_add-word-in-loop c = let h = word_room _ _ _ (c.args.x.covers - c.loop.counter) _ (omega (arith, c.loop-test.true)) c.loop.invariant.0 c.word_length.ensures.1 in omega (arith, h, c.requires.lent.0.stands.size)
+pub word_end-word-requires : goal.word_end-word-requires
+word_end-word-requires c = (word_turn _ _ _ (c.args.x.covers - c.loop.counter) (omega (arith, c.loop-test.true)) c.loop.invariant.0).here.inside
 
 pub loop-preserved : goal.loop-preserved
 loop-preserved c =
     let less : c.args.x.covers - (c.loop.counter + 1) ≡ c.args.x.covers - c.loop.counter - 1 = omega arith in
-    rw less (
-      words_after _ _ _ (c.args.x.covers - c.loop.counter) _ (omega (arith, c.loop-test.true)) c.loop.invariant.0 c.word_length.ensures.1,
-      covering_next _ _ _ _ _ _ _ (omega (arith, c.loop-test.true)) c.loop.invariant.0 _ _ _ _ _ c.loop.invariant.1 _ _ _ _ _ c.grow_cover.ensures _ _ c.word_length.ensures.1 c.in_ok-nodes.was,
+    rw (less, c.word_end-word.ensures.0) (
+      (word_turn _ _ _ (c.args.x.covers - c.loop.counter) (omega (arith, c.loop-test.true)) c.loop.invariant.0).rest,
+      covering_next _ _ _ _ _ _ _ (omega (arith, c.loop-test.true)) c.loop.invariant.0 _ _ _ _ _ c.loop.invariant.1 _ _ _ _ _ c.grow_cover.ensures _ c.in_ok-nodes.was,
     )
 
 pub returns : goal.returns
