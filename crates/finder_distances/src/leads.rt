@@ -3,7 +3,7 @@
 ghost use Rattle.std.specs.Prelude.{◌≡◌, ◌<◌, ℕ, Bool};
 ghost use Rattle.rules.specs.declared.Input.{Input};
 ghost use Rattle.rules.specs.Lists.{first, numbers};
-ghost use Rattle.finder_distances.specs.Marks.{mark_of, MarkTable};
+ghost use Rattle.finder_distances.specs.Marks.{mark_of};
 ghost use Rattle.reader.specs.Standing.{UnitAt};
 ghost use Rattle.finder_distances.specs.Leads.{machine_of_unit, nears, leads, lead_of, Tests};
 
@@ -17,13 +17,12 @@ use walker::Table;
 fn next_distance(
     unit: &[u8],
     x: UnitShape,
-    distances: &[u8],
+    distances: &[u8; 4096],
     p: GoldenState,
     q: GoldenState,
     input: Input,
 ) -> u8
     requires unit_at { UnitAt unit.now x }
-    requires mark_table { MarkTable distances.now }
     requires p_lt_states { (p.0 < x.states) × (q.0 < x.states) × (input.0 < x.inputs) }
     ensures { result ≡ mark_of distances.now ((machine_of_unit unit.now x).next p.0 input.0) ((machine_of_unit unit.now x).next q.0 input.0) }
 {
@@ -35,14 +34,13 @@ fn next_distance(
 fn comes_near(
     unit: &[u8],
     x: UnitShape,
-    distances: &[u8],
+    distances: &[u8; 4096],
     p: GoldenState,
     q: GoldenState,
     distance: u8,
     input: Input,
 ) -> bool
     requires unit_at { UnitAt unit.now x }
-    requires mark_table { MarkTable distances.now }
     requires p_lt_states { (p.0 < x.states) × (q.0 < x.states) × (input.0 < x.inputs) }
     ensures { result ≡ nears (machine_of_unit unit.now x) distances.now distance p.0 q.0 input.0 }
 {
@@ -67,13 +65,12 @@ fn lowest_input<F: Fn(Input) -> bool>(inputs: u8, test: F) -> Option<Input>
 pub fn find_lead(
     unit: &[u8],
     x: UnitShape,
-    distances: &[u8],
+    distances: &[u8; 4096],
     p: GoldenState,
     q: GoldenState,
     left: u8,
 ) -> Option<Input>
     requires unit_at { UnitAt unit.now x }
-    requires mark_table { MarkTable distances.now }
     requires p_lt_states { (p.0 < x.states) × (q.0 < x.states) }
     ensures { result ≡ lead_of (first (leads (machine_of_unit unit.now x) distances.now left p.0 q.0) (numbers x.inputs)) }
 {

@@ -15,7 +15,7 @@ use rules::GoldenState;
 fn mark_pair(
     unit: &[u8],
     x: UnitShape,
-    distances: &mut [u8],
+    distances: &mut [u8; 4096],
     p: GoldenState,
     q: GoldenState,
     rounds: u8,
@@ -42,7 +42,7 @@ fn mark_pair(
 fn mark_row(
     unit: &[u8],
     x: UnitShape,
-    distances: &mut [u8],
+    distances: &mut [u8; 4096],
     p: GoldenState,
     rounds: u8,
     already: bool,
@@ -61,7 +61,7 @@ fn mark_row(
 }
 
 // A whole round.
-fn mark_round(unit: &[u8], x: UnitShape, distances: &mut [u8], rounds: u8) -> bool
+fn mark_round(unit: &[u8], x: UnitShape, distances: &mut [u8; 4096], rounds: u8) -> bool
     requires unit_at { UnitAt unit.now x }
     requires rounds_lt_states { rounds < x.states }
     requires midway { Midway x.inputs (machine_of_unit unit.now x) rounds 0 false distances.old }
@@ -76,7 +76,7 @@ fn mark_round(unit: &[u8], x: UnitShape, distances: &mut [u8], rounds: u8) -> bo
 }
 
 // Rounds until one changes nothing, at most one less than there are states.
-pub fn find_distances(unit: &[u8], x: UnitShape, distances: &mut [u8])
+pub fn find_distances(unit: &[u8], x: UnitShape, distances: &mut [u8; 4096])
     requires unit_at { UnitAt unit.now x }
     requires distances_value { distances.old ≡ unmarked }
     ensures { DistancesAt unit.now x distances.new }

@@ -68,7 +68,7 @@ fn find_kept(text: &[u8], inputs: u8, count: usize, places: &mut [u16]) -> usize
 pub fn find_separators(
     unit: &[u8],
     x: UnitShape,
-    distances: &[u8],
+    distances: &[u8; 4096],
     text: &mut [u8],
     places: &mut [u16],
 ) -> usize

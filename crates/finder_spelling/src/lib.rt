@@ -28,7 +28,7 @@ pub fn text_room() -> [u8; 45696]
 fn spell_pair(
     unit: &[u8],
     x: UnitShape,
-    distances: &[u8],
+    distances: &[u8; 4096],
     p: GoldenState,
     q: GoldenState,
     text: &mut [u8],
@@ -48,7 +48,7 @@ fn spell_pair(
 fn spell_row(
     unit: &[u8],
     x: UnitShape,
-    distances: &[u8],
+    distances: &[u8; 4096],
     p: GoldenState,
     text: &mut [u8],
     at: usize,
@@ -68,7 +68,7 @@ fn spell_row(
 }
 
 // The words of all pairs. The answer is how many they are.
-fn spell_pairs(unit: &[u8], x: UnitShape, distances: &[u8], text: &mut [u8]) -> usize
+fn spell_pairs(unit: &[u8], x: UnitShape, distances: &[u8; 4096], text: &mut [u8]) -> usize
     requires unit_at { UnitAt unit.now x }
     requires distances_at { DistancesAt unit.now x distances.now }
     requires states_in_bounds { length (spelt_of unit.now x distances.now (pairs x.states)) ≤ length text.old }
@@ -84,7 +84,7 @@ fn spell_pairs(unit: &[u8], x: UnitShape, distances: &[u8], text: &mut [u8]) -> 
 }
 
 // The words of all pairs; for one state, which is in no pair, the empty word. The answer is how many they are.
-pub fn spell_words(unit: &[u8], x: UnitShape, distances: &[u8], text: &mut [u8]) -> usize
+pub fn spell_words(unit: &[u8], x: UnitShape, distances: &[u8; 4096], text: &mut [u8]) -> usize
     requires unit_at { UnitAt unit.now x }
     requires distances_at { DistancesAt unit.now x distances.now }
     requires all_told { AllTold x.states distances.now }

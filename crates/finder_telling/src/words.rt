@@ -18,7 +18,7 @@ use walker::Table;
 fn telling_input(
     unit: &[u8],
     x: UnitShape,
-    distances: &[u8],
+    distances: &[u8; 4096],
     p: GoldenState,
     q: GoldenState,
     left: u8,
@@ -36,7 +36,7 @@ fn telling_input(
 pub fn write_telling(
     unit: &[u8],
     x: UnitShape,
-    distances: &[u8],
+    distances: &[u8; 4096],
     p: GoldenState,
     q: GoldenState,
     out: &mut [u8],
