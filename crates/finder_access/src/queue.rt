@@ -59,9 +59,5 @@ pub fn place_of(places: &[u8], state: GoldenState) -> usize
     requires { state.0 < length places.now }
     ensures { result ≡ get_or places.now state.0 0 - 1 }
 {
-    let after = wide(places[wide(state.number())]);
-    if after == 0 {
-        return 0;
-    }
-    after - 1
+    wide(places[wide(state.number())]).saturating_sub(1)
 }

@@ -16,8 +16,7 @@ use crate::queue::{entry, state_at};
 use numbers::wide;
 use reader::UnitShape;
 use rules::{GoldenState, Input};
-use soundness_reach::StateFound;
-use walker::golden_next;
+use walker::Table;
 
 // Queues a state, unless it was met before. The answer is how many entries the queue has then.
 fn put(
@@ -57,8 +56,8 @@ fn try_input(
     requires head_lt_tail { (head < tail) × (input.0 < x.inputs) }
     ensures { Searching (unit_in unit.now x) queue.new places.new (step_of head (input.0 + 1)) result × (head < result) }
 {
-    let state = state_at(queue, head);
-    let next = golden_next(unit, x.table, x.inputs, x.states, state, input);
+    let table = Table::standing(unit, x.table, x.inputs, x.states);
+    let next = table.next(state_at(queue, head), input);
     put(queue, places, tail, next, head, input)
 }
 
@@ -76,13 +75,10 @@ fn try_entry(
     requires head_lt_tail { head < tail }
     ensures { Searching (unit_in unit.now x) queue.new places.new (step_of (head + 1) 0) result × (head < result) }
 {
-    let inputs = x.inputs;
     let mut last = tail;
-    let mut left = inputs;
-    while 0 < left {
-        let input = Input::numbered(inputs - left);
+    for i in 0..x.inputs {
+        let input = Input::numbered(i);
         last = try_input(unit, x, queue, places, head, last, input);
-        left -= 1;
     }
     last
 }
@@ -98,6 +94,7 @@ pub fn reach_states(unit: &[u8], x: UnitShape, queue: &mut [u16], places: &mut [
     places[0] = 1;
     let mut head = 0;
     let mut tail = 1;
+    // The queue grows while it is gone through.
     while head < tail {
         tail = try_entry(unit, x, queue, places, head, tail);
         head += 1;
@@ -106,16 +103,14 @@ pub fn reach_states(unit: &[u8], x: UnitShape, queue: &mut [u16], places: &mut [
 }
 
 // The lowest state that was not met.
-pub fn unreached(places: &[u8], states: u8) -> StateFound
+pub fn unreached(places: &[u8], states: u8) -> Option<GoldenState>
     requires { (length places.now ≡ most_states) × (states ≤ most_states) }
     ensures { (u : UnitData) → Marks u places.now → u.states ≡ states → result ≡ state_found (unreachable u) }
 {
-    let mut q = 0;
-    while q < states {
+    for q in 0..states {
         if places[wide(q)] == 0 {
-            return StateFound::At(GoldenState::numbered(q));
+            return Some(GoldenState::numbered(q));
         }
-        q += 1;
     }
-    StateFound::Nowhere
+    None
 }

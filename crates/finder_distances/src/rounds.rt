@@ -6,7 +6,6 @@ ghost use Rattle.reader.specs.Standing.{UnitAt};
 ghost use Rattle.finder_distances.specs.Leads.{machine_of_unit};
 ghost use Rattle.finder_distances.specs.Rounds.{Midway, DistancesAt};
 
-use crate::Lead;
 use crate::leads::find_lead;
 use crate::marks::{distance_at, set_distance};
 use reader::UnitShape;
@@ -31,11 +30,11 @@ fn mark_pair(
         return changed;
     }
     match find_lead(unit, x, distances, p, q, rounds) {
-        Lead::By(_) => {
+        Some(_) => {
             set_distance(distances, p, q, rounds + 1);
             true
         }
-        Lead::Nowhere => changed,
+        None => changed,
     }
 }
 
@@ -53,20 +52,10 @@ fn mark_row(
     requires midway { Midway x.inputs (machine_of_unit unit.now x) rounds (place_of p.0 0) already distances.old }
     ensures { Midway x.inputs (machine_of_unit unit.now x) rounds (place_of (p.0 + 1) 0) result distances.new }
 {
-    let states = x.states;
     let mut changed = already;
-    let mut q = p.number() + 1;
-    while q < states {
-        changed = mark_pair(
-            unit,
-            x,
-            distances,
-            p,
-            GoldenState::numbered(q),
-            rounds,
-            changed,
-        );
-        q += 1;
+    for q in p.number() + 1..x.states {
+        let other = GoldenState::numbered(q);
+        changed = mark_pair(unit, x, distances, p, other, rounds, changed);
     }
     changed
 }
@@ -78,13 +67,10 @@ fn mark_round(unit: &[u8], x: UnitShape, distances: &mut [u8], rounds: u8) -> bo
     requires midway { Midway x.inputs (machine_of_unit unit.now x) rounds 0 false distances.old }
     ensures { Midway x.inputs (machine_of_unit unit.now x) rounds (place_of x.states 0) result distances.new }
 {
-    let states = x.states;
     let mut changed = false;
-    let mut p = 0;
-    while p < states {
+    for p in 0..x.states {
         let state = GoldenState::numbered(p);
         changed = mark_row(unit, x, distances, state, rounds, changed);
-        p += 1;
     }
     changed
 }
@@ -95,12 +81,9 @@ pub fn find_distances(unit: &[u8], x: UnitShape, distances: &mut [u8])
     requires distances_value { distances.old ≡ unmarked }
     ensures { DistancesAt unit.now x distances.new }
 {
-    let last = x.states - 1;
-    let mut rounds = 0;
-    while rounds < last {
+    for rounds in 0..x.states - 1 {
         if !mark_round(unit, x, distances, rounds) {
             return;
         }
-        rounds += 1;
     }
 }

@@ -38,10 +38,8 @@ pub fn give_ranks(ranks: &mut [u8], count: usize, ranked: usize) -> usize
     ensures { (names order : List Field) → RanksAt ranks.old names order → distinct names ≡ names → count ≡ length names → ranked ≡ length order → RanksAt ranks.new names (order ++ keep (λ n. not (is_in n order)) names) × (result ≡ length names) }
 {
     let mut all = ranked;
-    let mut j = 0;
-    while j < count {
+    for j in 0..count {
         all = give_rank(ranks, j, all);
-        j += 1;
     }
     all
 }

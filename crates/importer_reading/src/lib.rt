@@ -29,32 +29,9 @@ struct TermParts {
     output: Part,
 }
 
-// 19, 20, or what was said with the line.
+// What is wrong with a line: it may not follow those before it, or it contradicts them.
 #[derive(Clone, Copy)]
-pub enum Step {
+pub enum LineFault {
     Bad,
     Contradicts,
-    Goes(Progress),
-}
-
-// No room for both names of a term; or their numbers, the current state's first, and how many names there are.
-#[derive(Clone, Copy)]
-enum BothNamed {
-    Full,
-    At(usize, usize, usize),
-}
-
-// 19; or what was counted with the term, the term, and how many names there are.
-#[derive(Clone, Copy)]
-enum NamedTerm {
-    Bad,
-    At(Counts, NumberedTerm, usize),
-}
-
-// The line of 19 or 20; or what was said, and the number of the line behind the last.
-#[derive(Clone, Copy)]
-pub enum LinesRead {
-    Bad(usize),
-    Contradicts(usize),
-    Read(Progress, usize),
 }
