@@ -7,7 +7,7 @@ ghost use Rattle.std.specs.Prelude.{◌≡◌, false, ◌+◌, ◌≤◌, ◌<�
 ghost use Rattle.rules.specs.Sizes.{most_inputs};
 ghost use Rattle.walker.specs.Machines.{machine_in};
 ghost use Rattle.comparer_pairs.specs.Pairs.{pairs};
-ghost use Rattle.comparer_pairs.specs.Marks.{MarkTable, met};
+ghost use Rattle.comparer_pairs.specs.Marks.{met};
 ghost use Rattle.comparer_pairs.specs.Queue.{step_of};
 ghost use Rattle.comparer_search.specs.Search.{Searched, ProgressOf, FoundOf, PutOf};
 
@@ -17,14 +17,13 @@ use std::ops::ControlFlow;
 
 // Queues a pair, unless it was met before. The answer is how many entries the queue has then.
 fn put(
-    marks: &mut [u8],
-    queue: &mut [u32],
+    marks: &mut [u8; 4096],
+    queue: &mut [u32; 4096],
     tail: usize,
     pair: usize,
     head: usize,
     input: Input,
 ) -> usize
-    requires mark_table { MarkTable marks.old × (length queue.old ≡ pairs) }
     requires pair_lt_pairs { (pair < pairs) × (head < pairs) × (input.0 < most_inputs) }
     requires tail_lt_pairs { met marks.old pair ≡ false → tail < pairs }
     ensures { PutOf (met marks.old pair) marks.old queue.old tail pair (step_of head input.0) marks.new queue.new result }
@@ -41,8 +40,8 @@ fn put(
 // as the queue has then.
 fn try_input(
     sides: &Sides<'_>,
-    marks: &mut [u8],
-    queue: &mut [u32],
+    marks: &mut [u8; 4096],
+    queue: &mut [u32; 4096],
     head: usize,
     tail: usize,
     input: Input,
@@ -60,8 +59,8 @@ fn try_input(
 // Tries every input at an entry of the queue.
 fn try_entry(
     sides: &Sides<'_>,
-    marks: &mut [u8],
-    queue: &mut [u32],
+    marks: &mut [u8; 4096],
+    queue: &mut [u32; 4096],
     head: usize,
     tail: usize,
 ) -> ControlFlow<Input, usize>
@@ -78,8 +77,7 @@ fn try_entry(
 
 // The first entry and input that tell golden and unit apart. The queue starts with the pair of the states 0, whose number is 0 and
 // which no step leads to.
-pub fn search(sides: &Sides<'_>, queue: &mut [u32]) -> Option<(usize, Input)>
-    requires { length queue.old ≡ pairs }
+pub fn search(sides: &Sides<'_>, queue: &mut [u32; 4096]) -> Option<(usize, Input)>
     ensures { FoundOf sides.now.golden.inputs (machine_in sides.now.golden) (machine_in sides.now.unit) queue.new result }
 {
     let mut marks = no_marks();

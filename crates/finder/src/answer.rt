@@ -9,9 +9,8 @@ use finder_distances::{find_distances, no_distances};
 use finder_separators::{find_separators, place_room, separators_size};
 use finder_spelling::text_room;
 use finder_telling::lowest_untold;
-use reader::{UnitRead, UnitShape, bound_in_range, read_unit};
+use reader::{UnitShape, bound_in_range, read_unit};
 use rules::{Fault, File, Found, Refusal};
-use soundness::Finding;
 
 // What a dossier has around its table and its words, more than a unit has: the byte for m and three counts.
 const MORE_THAN_A_UNIT: usize = 7;
@@ -74,8 +73,8 @@ fn find_bounded(unit: &[u8], x: UnitShape, bound: u8, out: &mut [u8]) -> Found
     let state = unreached(&places, states);
     let pair = lowest_untold(&distances, states);
     match first_fault(state, pair) {
-        Finding::Fine => find_words(unit, x, bound, &queue, &places, &distances, out),
-        Finding::Refused(r) => Found::Refused(r),
+        Ok(()) => find_words(unit, x, bound, &queue, &places, &distances, out),
+        Err(r) => Found::Refused(r),
     }
 }
 
@@ -94,7 +93,7 @@ pub fn find(unit: &[u8], bound: u8, out: &mut [u8]) -> Found
     ensures { FindPromise unit.now bound out.old result out.new }
 {
     match read_unit(unit) {
-        UnitRead::Holds(x) => find_given(unit, x, bound, out),
-        UnitRead::Refused(r) => Found::Refused(r),
+        Ok(x) => find_given(unit, x, bound, out),
+        Err(r) => Found::Refused(r),
     }
 }

@@ -8,6 +8,7 @@ ghost use Rattle.finder_separators.specs.Kept.{TextAt, KeptAt, SeparatorsAt};
 
 use finder_spelling::spell_words;
 use reader::UnitShape;
+use trie::Nodes;
 use trie_filing::{find_firsts, node_bytes, node_links, put_words};
 
 // A place for each word.
@@ -35,9 +36,8 @@ fn find_in(
     ensures { KeptAt text.now count places.new result }
 {
     put_words(text, 0, inputs, count, label, first, next);
-    find_firsts(
-        text, 0, inputs, count, label, first, next, marks, numbers, places,
-    )
+    let nodes = Nodes { label, first, next };
+    find_firsts(text, 0, inputs, count, nodes, marks, numbers, places)
 }
 
 // The arrays, and the search in them.

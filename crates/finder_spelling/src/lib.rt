@@ -59,13 +59,10 @@ fn spell_row(
     requires p_in_bounds { at + length (spelt_of unit.now x distances.now (row_pairs x.states p.0 (p.0 + 1))) ≤ length text.old }
     ensures { Wrote text.old at (spelt_of unit.now x distances.now (row_pairs x.states p.0 (p.0 + 1))) text.new result }
 {
-    let states = x.states;
     let mut place = at;
-    let mut q = p.number() + 1;
-    while q < states {
+    for q in p.number() + 1..x.states {
         let other = GoldenState::numbered(q);
         place = spell_pair(unit, x, distances, p, other, text, place);
-        q += 1;
     }
     place
 }
@@ -77,14 +74,11 @@ fn spell_pairs(unit: &[u8], x: UnitShape, distances: &[u8], text: &mut [u8]) -> 
     requires states_in_bounds { length (spelt_of unit.now x distances.now (pairs x.states)) ≤ length text.old }
     ensures { SpellsAll unit.now x distances.now text.old text.new result }
 {
-    let states = x.states;
     let mut place = 0;
     let mut count = 0;
-    let mut p = 0;
-    while p < states {
+    for p in 0..x.states {
         place = spell_row(unit, x, distances, GoldenState::numbered(p), text, place);
-        p += 1;
-        count += wide(states - p);
+        count += wide(x.states - p - 1);
     }
     count
 }

@@ -7,40 +7,32 @@ ghost use Rattle.finder_telling.specs.Pairs.{lowest_untold, ToldBefore, RowOf};
 
 use finder_distances::distance_at;
 use rules::GoldenState;
-use soundness_apart::PairFound;
 
 // The lowest of them with the first state p.
-fn untold_row(distances: &[u8], states: u8, p: GoldenState) -> PairFound
+fn untold_row(distances: &[u8], states: u8, p: GoldenState) -> Option<(GoldenState, GoldenState)>
     requires mark_table { MarkTable distances.now }
     requires p_lt_states { (p.0 < states) × (states ≤ most_states) }
     requires told_before { ToldBefore states distances.now (place_of p.0 0) }
     ensures { RowOf states distances.now p.0 result }
 {
-    let mut q = p.number() + 1;
-    while q < states {
+    for q in p.number() + 1..states {
         let other = GoldenState::numbered(q);
         if distance_at(distances, p, other) == 0 {
-            return PairFound::At(p, other);
+            return Some((p, other));
         }
-        q += 1;
     }
-    PairFound::Nowhere
+    None
 }
 
-pub fn lowest_untold(distances: &[u8], states: u8) -> PairFound
+pub fn lowest_untold(distances: &[u8], states: u8) -> Option<(GoldenState, GoldenState)>
     requires mark_table { MarkTable distances.now }
     requires states_le_most_states { states ≤ most_states }
     ensures { result ≡ pair_found (lowest_untold states distances.now) }
 {
-    let mut p = 0;
-    while p < states {
-        match untold_row(distances, states, GoldenState::numbered(p)) {
-            PairFound::At(one, other) => {
-                return PairFound::At(one, other);
-            }
-            PairFound::Nowhere => {}
+    for p in 0..states {
+        if let Some((one, other)) = untold_row(distances, states, GoldenState::numbered(p)) {
+            return Some((one, other));
         }
-        p += 1;
     }
-    PairFound::Nowhere
+    None
 }

@@ -8,10 +8,11 @@ ghost use Rattle.finder_distances.specs.Rounds.{DistancesAt};
 ghost use Rattle.finder_telling.specs.Read.{next_input, telling_off};
 ghost use Rattle.theory.specs.Wrote.{Wrote};
 
-use finder_distances::{Lead, distance_at, find_lead};
+use finder_distances::{distance_at, find_lead};
+use numbers::wide;
 use reader::UnitShape;
 use rules::{GoldenState, Input};
-use walker::golden_next;
+use walker::Table;
 
 // The input that the first telling word of two states begins with, where `left` inputs follow it.
 fn telling_input(
@@ -27,10 +28,8 @@ fn telling_input(
     requires p_lt_states { (p.0 < x.states) × (q.0 < x.states) × (mark_of distances.now p.0 q.0 ≡ left + 1) }
     ensures { (result.0 ≡ next_input x.inputs (machine_of_unit unit.now x) distances.now left p.0 q.0) × (result.0 < x.inputs) }
 {
-    match find_lead(unit, x, distances, p, q, left) {
-        Lead::By(input) => input,
-        Lead::Nowhere => Input::numbered(0),
-    }
+    // Two states that have a distance have an input that leads on.
+    find_lead(unit, x, distances, p, q, left).unwrap()
 }
 
 // Writes the inputs of the first telling word of two states from the place `at` on. The answer is the place after them.
@@ -49,17 +48,16 @@ pub fn write_telling(
     requires q_in_bounds { at + mark_of distances.now p.0 q.0 ≤ length out.old }
     ensures { Wrote out.old at (telling_off unit.now x distances.now p.0 q.0) out.new result }
 {
+    let table = Table::standing(unit, x.table, x.inputs, x.states);
+    let far = distance_at(distances, p, q);
     let mut one = p;
     let mut other = q;
-    let mut left = distance_at(distances, p, q);
-    let mut place = at;
-    while 0 < left {
-        left -= 1;
+    for i in 0..far {
+        let left = far - i - 1;
         let input = telling_input(unit, x, distances, one, other, left);
-        out[place] = input.number();
-        one = golden_next(unit, x.table, x.inputs, x.states, one, input);
-        other = golden_next(unit, x.table, x.inputs, x.states, other, input);
-        place += 1;
+        out[at + wide(i)] = input.number();
+        one = table.next(one, input);
+        other = table.next(other, input);
     }
-    place
+    at + wide(far)
 }

@@ -179,9 +179,9 @@ shape_is : (d : DossierData) (cover separating tests : ℕ) → cover ≡ cover_
     → dossier_shape d ≡ record { inputs = d.inputs; states = d.states; bound_byte = d.bound_byte; table = dossier_table; cover = cover; covers = length d.cover; separating = separating; separators = length d.separating; tests = tests; count = length d.tests }
 shape_is d cover separating tests c s t = rw (c, s, t)
 
-dossier_placed : (s : List ℕ) → dossier_shown (dossier 0 s) ≡ answer Dossier (dossier_places 0 s)
+dossier_placed_lem : (s : List ℕ) → dossier_shown (dossier 0 s) ≡ answer Dossier (dossier_places 0 s)
 unfolding dossier dossier_places sizes dossier_from_bound dossier_from_table dossier_from_cover dossier_from_separating dossier_from_tests cover_place separating_place tests_place
-dossier_placed s =
+dossier_placed_lem s =
     then_same_in dossier_shown (answer Dossier) (λ f p. refl) (judged (eqb 3) BadNumbers count 0 s) _ _ _
     (λ three p₁ l₁ e₁. then_same_in dossier_shown (answer Dossier) (λ f p. refl) (number most_inputs p₁ l₁) _ _ _
     (λ k p₂ l₂ e₂. then_same_in dossier_shown (answer Dossier) (λ f p. refl) (number most_states p₂ l₂) _ _ _
@@ -203,7 +203,7 @@ dossier_placed s =
 
 pub dossier_short : (s : List ℕ) → length s ≤ most_dossier_bytes → answer Dossier (dossier_places 0 s) ≡ dossier_read (read_dossier s)
 unfolding read_file
-dossier_short s short = rw (le-ltb most_dossier_bytes (length s) short) (sym (dossier_placed s))
+dossier_short s short = rw (le-ltb most_dossier_bytes (length s) short) (sym (dossier_placed_lem s))
 
 pub dossier_long : (s : List ℕ) → most_dossier_bytes < length s → Err (Malformed TooLong Dossier 0) ≡ dossier_read (read_dossier s)
 unfolding read_file
@@ -218,9 +218,9 @@ unfolding ending
 unit_same u p [] = refl
 unit_same u p (b ∷ l) = refl
 
-unit_placed : (s : List ℕ) → unit_shown (unit_table 0 s) ≡ answer UnitFile (unit_places 0 s)
+unit_placed_lem : (s : List ℕ) → unit_shown (unit_table 0 s) ≡ answer UnitFile (unit_places 0 s)
 unfolding unit_table unit_places sizes unit_from_table
-unit_placed s =
+unit_placed_lem s =
     then_same_in unit_shown (answer UnitFile) (λ f p. refl) (judged (eqb 2) BadNumbers count 0 s) _ _ _
     (λ two p₁ l₁ e₁. then_same_in unit_shown (answer UnitFile) (λ f p. refl) (number most_inputs p₁ l₁) _ _ _
     (λ k p₂ l₂ e₂. then_same_in unit_shown (answer UnitFile) (λ f p. refl) (number most_states p₂ l₂) _ _ _
@@ -229,7 +229,7 @@ unit_placed s =
 
 pub unit_short : (s : List ℕ) → length s ≤ most_unit_bytes → answer UnitFile (unit_places 0 s) ≡ unit_read (read_unit s)
 unfolding read_file
-unit_short s short = rw (le-ltb most_unit_bytes (length s) short) (sym (unit_placed s))
+unit_short s short = rw (le-ltb most_unit_bytes (length s) short) (sym (unit_placed_lem s))
 
 pub unit_long : (s : List ℕ) → most_unit_bytes < length s → Err (Malformed TooLong UnitFile 0) ≡ unit_read (read_unit s)
 unfolding read_file
@@ -244,9 +244,9 @@ unfolding ending
 sheet_same rs x p [] is = rw is
 sheet_same rs x p (b ∷ l) is = refl
 
-sheet_placed : (k : ℕ) (s : List ℕ) → sheet_shown (sheet k 0 s) ≡ answer Sheet (sheet_places k 0 s)
+sheet_placed_lem : (k : ℕ) (s : List ℕ) → sheet_shown (sheet k 0 s) ≡ answer Sheet (sheet_places k 0 s)
 unfolding sheet sheet_places sheet_from_records
-sheet_placed k s =
+sheet_placed_lem k s =
     then_same sheet_shown (answer Sheet) (λ f p. refl) (count 0 s) _ _
     (λ c p₁ l₁ e₁. then_same sheet_shown (answer Sheet) (λ f p. refl) (many (sheet_record k) c p₁ l₁) _ _
     (λ rs p₂ l₂ e₂.
@@ -256,7 +256,7 @@ sheet_placed k s =
 
 pub sheet_short : (k : ℕ) (s : List ℕ) → length s ≤ most_sheet_bytes → answer Sheet (sheet_places k 0 s) ≡ sheet_read (read_sheet k s)
 unfolding read_file
-sheet_short k s short = rw (le-ltb most_sheet_bytes (length s) short) (sym (sheet_placed k s))
+sheet_short k s short = rw (le-ltb most_sheet_bytes (length s) short) (sym (sheet_placed_lem k s))
 
 pub sheet_long : (k : ℕ) (s : List ℕ) → most_sheet_bytes < length s → Err (Malformed TooLong Sheet 0) ≡ sheet_read (read_sheet k s)
 unfolding read_file

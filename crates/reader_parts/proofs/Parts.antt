@@ -4,14 +4,14 @@ use borrow.Author.Tests.{eq-eqb, ne_eqb}
 use lib.Dec.{ltb, eqb}
 use Rattle.rules.specs.declared.Fault.{Fault}
 use Rattle.rules.specs.declared.Fault.TheVariants.{BadNumbers, BadTable}
-use Rattle.rules.specs.Sizes.{counts}
+use Rattle.rules.specs.Sizes.{most_inputs, most_states, counts}
 use Rattle.rules.specs.Reading.{Got, got, faulty, then, byte, judged, count}
 use Rattle.theory.specs.Readers.{Seen}
 use Rattle.theory.specs.Sections.{reads_judged-byte, reads_judged-count}
 use Rattle.reader_steps.specs.Steps.{stop, step, number_read}
 use Rattle.reader_steps.proofs.Laws.{keeps, was_number, was_read}
 use Rattle.reader_steps.proofs.Sections.{the_count}
-use Rattle.reader_parts.specs.Numbers.{number}
+use Rattle.reader_parts.specs.Numbers.{number, sizes, sizes_are, sizes_read}
 
 -- what is made of a thing that was read does not change where it ended
 pub step_map : {A B : Type 0} (x : Got A) (f : A → B) → step (then x (λ a q t. got (f a) q t)) ≡ step x
@@ -38,3 +38,11 @@ module _ (s : List ℕ) (p : ℕ) where
   -- of a count that had to be x it does not matter what it was
   pub the_expected : (x : ℕ) (fault : Fault) → Seen fault → (q : ℕ) → Ok q ≡ step (judged (eqb x) fault count p (drop p s)) → (c : ℕ) × (judged (eqb x) fault count p (drop p s) ≡ got c q (drop q s))
   the_expected x fault seen q is = was_read s (judged (eqb x) fault count p (drop p s)) q (keeps (reads_judged-count (eqb x) fault seen) s p) is
+
+  -- the front of a file with numbers: their count, then inputs and states
+  pub sizes_read_lem : (x first k middle n q : ℕ) → Ok first ≡ step (judged (eqb x) BadNumbers count p (drop p s)) → Ok (k, middle) ≡ number_read (number most_inputs first (drop first s))
+      → Ok (n, q) ≡ number_read (number most_states middle (drop middle s)) → Ok (sizes_are (k, n) q) ≡ sizes_read (sizes x p (drop p s))
+  unfolding sizes
+  sizes_read_lem x first k middle n q counted inputs states =
+      let c = the_expected x BadNumbers tt first counted in
+      rw (c.1, was_number s (number most_inputs first (drop first s)) k middle (keeps (reads_judged-byte (counts most_inputs) BadNumbers tt) s first) inputs, was_number s (number most_states middle (drop middle s)) n q (keeps (reads_judged-byte (counts most_states) BadNumbers tt) s middle) states)

@@ -1,12 +1,12 @@
 -- Laws of readings of a file s from a place p on: what a reading was, where the program's step answered so of it.
-use Rattle.std.proofs.Common.{Result, Ok, Err, ℕ, zero, suc, ◌+◌, ◌-◌, ◌≤◌, ◌<◌, ◌≡◌, refl, sym, ap, ◌∙◌, List, ◌∷◌, arith, length, drop}
+use Rattle.std.proofs.Common.{Result, Ok, Err, ℕ, zero, suc, ◌+◌, ◌*◌, ◌-◌, ◌≤◌, ◌<◌, ◌≡◌, refl, sym, ap, ◌∙◌, List, ◌∷◌, arith, length, drop}
 use Rattle.std.specs.Result.{IsErrAnd}
 use Rattle.std.proofs.lemmas.Result.{err_from_is_err_and}
 use native.Mathlib.Numerals.{add-one}
 use lib.ListN.{get_or, drop_of_length-le}
 use lib.Seq.{drop-cons, drop-drop, drop-append_seam}
 use Rattle.rules.specs.declared.Fault.TheVariants.{CutShort}
-use Rattle.rules.specs.Reading.{Got, got, faulty, Reader, then, byte, output, many}
+use Rattle.rules.specs.Reading.{Got, got, faulty, Reader, then, byte, count, output, many}
 use Rattle.theory.specs.Readers.{Reads, reads_byte}
 use Rattle.reader_steps.specs.declared.Stop.{Stop}
 use Rattle.reader_steps.specs.Steps.{stop, answered, step, stepping, number_read, onward, repeated}
@@ -95,6 +95,11 @@ module _ (s : List ℕ) (p : ℕ) where
   -- what was answered of it
   pub the_byte : (b q : ℕ) → Ok (b, q) ≡ number_read (byte p (drop p s)) → byte p (drop p s) ≡ got b q (drop q s)
   the_byte b q is = was_number s (byte p (drop p s)) b q (keeps reads_byte s p) is
+
+  -- a count is its two bytes, low byte first
+  pub count_read_lem : (low q high q' : ℕ) → Ok (low, q) ≡ number_read (byte p (drop p s)) → Ok (high, q') ≡ number_read (byte q (drop q s)) → Ok (low + 256 * high, q') ≡ number_read (count p (drop p s))
+  unfolding count
+  count_read_lem low q high q' is is' = rw (the_byte low q is, was_number s (byte q (drop q s)) high q' (keeps reads_byte s q) is')
 
 -- n steps, each the step of the same reading, are the step of n readings
 module _ {A : Type 0} (one : Reader A) (s : List ℕ) (keep : Keeps s one) where

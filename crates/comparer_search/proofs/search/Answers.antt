@@ -7,7 +7,7 @@ use Rattle.comparer_search.proofs.search.Goals as goal
 
 pub loop-head-init : goal.loop-head-init
 loop-head-init c = record {
-  searched = searched_start c.args.sides.now.golden.inputs (machine_in c.args.sides.now.golden) (machine_in c.args.sides.now.unit) c.meet.new.marks c.args.queue.now c.requires (c.meet.ensures ∙ ap (λ l. with_mark l 0) c.no_marks-marks.ensures);
+  searched = searched_start c.args.sides.now.golden.inputs (machine_in c.args.sides.now.golden) (machine_in c.args.sides.now.unit) c.meet.new.marks c.args.queue.now c.told-queue (c.meet.ensures ∙ ap (λ l. with_mark l 0) c.no_marks-marks.ensures);
   within = omega arith;
   few = omega arith;
   queue_long = refl;

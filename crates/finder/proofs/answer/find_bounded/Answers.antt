@@ -16,7 +16,7 @@ pub find_distances-requires-clause-distances_value : goal.find_distances-require
 find_distances-requires-clause-distances_value c = c.no_distances-distances.ensures
 
 pub find_words-requires : goal.find_words-requires
-find_words-requires c = fault_none c.requires c.reach_states.ensures.0 c.find_distances.ensures _ _ _ c.unreached-state.ensures c.lowest_untold-pair.ensures c.first_fault.ensures c.in-Fine.is
+find_words-requires c = fault_none c.requires c.reach_states.ensures.0 c.find_distances.ensures _ _ _ c.unreached-state.ensures c.lowest_untold-pair.ensures c.first_fault.ensures c.in-Ok.is
 
-pub returns-in-Refused : goal.returns-in-Refused
-returns-in-Refused c = fault_refuses c.requires c.reach_states.ensures.0 c.find_distances.ensures _ _ _ c.unreached-state.ensures c.lowest_untold-pair.ensures c.first_fault.ensures _ c.in-Refused.is _
+pub returns-in-Err : goal.returns-in-Err
+returns-in-Err c = fault_refuses c.requires c.reach_states.ensures.0 c.find_distances.ensures _ _ _ c.unreached-state.ensures c.lowest_untold-pair.ensures c.first_fault.ensures _ c.in-Err.is _

@@ -5,6 +5,3 @@ use Rattle.finder_telling.proofs.pairs.lowest_untold.Given as goal
 
 abbrev pub invariant-loop-p : goal.invariant-loop-p
 invariant-loop-p l = ToldBefore l.states l.distances (place_of l.p 0)
-
-abbrev pub decreases-loop-p : goal.decreases-loop-p
-decreases-loop-p l = l.states - l.p

@@ -1,6 +1,6 @@
 use Rattle.reader_steps.proofs.Laws.{cut}
 use Rattle.reader_parts.specs.Numbers.{sizes}
-use Rattle.reader_parts.proofs.Parts.{the_expected, the_number}
+use Rattle.reader_parts.proofs.Parts.{the_expected, the_number, sizes_read_lem}
 use Rattle.reader_parts.proofs.machine.sizes_at.Goals as goal
 
 pub returns-in_err-first : goal.returns-in_err-first
@@ -18,6 +18,4 @@ returns-in_err-states c = let x = the_expected _ _ _ _ tt _ c.in_ok-first.ensure
     rw (x.1, the_number _ _ _ _ _ c.in_ok-inputs.ensures) (cut _ _ _ _ _ _ c.from_residual-in_err-states.ensures.1 c.in_err-states.ensures)
 
 pub returns : goal.returns
-unfolding sizes
-returns c = let x = the_expected _ _ _ _ tt _ c.in_ok-first.ensures in
-    rw (x.1, the_number _ _ _ _ _ c.in_ok-inputs.ensures, the_number _ _ _ _ _ c.in_ok-states.ensures)
+returns c = sizes_read_lem _ _ _ _ _ _ _ _ c.in_ok-first.ensures c.in_ok-inputs.ensures c.in_ok-states.ensures

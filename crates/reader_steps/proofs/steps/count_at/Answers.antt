@@ -1,5 +1,5 @@
 use Rattle.rules.specs.Reading.{count}
-use Rattle.reader_steps.proofs.Laws.{cut, the_byte}
+use Rattle.reader_steps.proofs.Laws.{cut, the_byte, count_read_lem}
 use Rattle.reader_steps.proofs.steps.count_at.Goals as goal
 
 pub returns-in_err-low : goal.returns-in_err-low
@@ -11,5 +11,4 @@ unfolding count
 returns-in_err-high c = rw (the_byte _ _ _ _ c.in_ok-low.ensures) (cut _ _ _ _ _ _ c.from_residual-in_err-high.ensures.1 c.in_err-high.ensures)
 
 pub returns : goal.returns
-unfolding count
-returns c = rw (c.wide.ensures.0, c.wide-2.ensures.0, the_byte _ _ _ _ c.in_ok-low.ensures, the_byte _ _ _ _ c.in_ok-high.ensures)
+returns c = rw (c.wide.ensures.0, c.wide-2.ensures.0) (count_read_lem _ _ _ _ _ _ c.in_ok-low.ensures c.in_ok-high.ensures)
