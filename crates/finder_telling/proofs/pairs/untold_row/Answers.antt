@@ -6,9 +6,6 @@ use Rattle.finder_telling.proofs.pairs.untold_row.Goals as goal
 pub loop-q-init : goal.loop-q-init
 loop-q-init c = (row_start c.args.states c.args.distances.now c.requires.p_lt_states.1 c.args.p.0 _ c.number-q.ensures c.requires.told_before, omega (arith, c.number-q.ensures))
 
-pub distance_at-requires-clause-p_lt_most_states : goal.distance_at-requires-clause-p_lt_most_states
-distance_at-requires-clause-p_lt_most_states c = (omega (arith, c.requires.p_lt_states), omega (arith, c.numbered-other.ensures, c.loop-q-test.true, c.requires.p_lt_states))
-
 pub returns-then-distance_at-eq0 : goal.returns-then-distance_at-eq0
 returns-then-distance_at-eq0 c = row_found c.args.states c.args.distances.now c.requires.p_lt_states.1 c.args.p _ c.loop-q.q _ c.loop-q.invariant.1 c.loop-q-test.true c.numbered-other.ensures c.distance_at.ensures (omega (arith, c.if-distance_at-eq0.true)) c.loop-q.invariant.0
 
