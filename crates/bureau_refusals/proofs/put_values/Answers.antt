@@ -11,6 +11,9 @@ returns-in-NoEmptyWord c = rw c.in-NoEmptyWord.is (feed_closes c.put_line_feed.e
 pub returns-in-NoSeparator : goal.returns-in-NoSeparator
 returns-in-NoSeparator c = rw c.in-NoSeparator.is (feed_closes c.put_line_feed-in-NoSeparator.ensures)
 
+pub returns-in-NotSeparated : goal.returns-in-NotSeparated
+returns-in-NotSeparated c = rw (c.in-NotSeparated.is, ← c.number-in-NotSeparated.ensures, ← c.number-in-NotSeparated-2.ensures) c.put_two.ensures
+
 pub returns-in-OtherInputs : goal.returns-in-OtherInputs
 returns-in-OtherInputs c = rw c.in-OtherInputs.is (feed_closes c.put_line_feed-in-OtherInputs.ensures)
 
