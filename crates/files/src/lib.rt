@@ -31,7 +31,7 @@ pub fn open_overwrite<R: Files>(rt: &R, name: &[u8]) -> Option<R::File> {
 }
 
 // Reads until buf is full, the file ends or a read fails, and returns how many bytes it put at the start of buf: the first
-// that the file had left.
+// that the file had left. How far a read gets is the file's to say, so no range counts the turns.
 pub fn read_full<F: Read>(file: &mut F, buf: &mut [u8]) -> usize
     ensures within { IsPrefixLen result buf.new }
     ensures bytes { Consumes (F.remaining file.old) (F.remaining file.new) (take result buf.new) }
