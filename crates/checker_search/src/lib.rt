@@ -12,7 +12,8 @@ use walker::word_end;
 
 // The first needed word that begins no test, by the numbers of its cover word, its middle and its separating word: cover in file
 // order outermost, then middle, then separating. Of equal separating words the first stands for all: `numbers` and `places` say which
-// those are and where they stand. `kept` is for the nodes of the middles behind a cover word, of which there are `total`.
+// those are and where they stand. `kept` is for the nodes of the middles behind a cover word, of which there are `total`. The loops
+// are labelled, and left from the innermost (docs/FORMS.md).
 pub fn find_missing(
     bytes: &[u8],
     x: DossierShape,

@@ -13,9 +13,8 @@ use Rattle.rules.specs.Words.{Word, begins, is_in, words_of, shortlex}
 use Rattle.middles.specs.Parents.{parent_place, parent_before, grows_from, parents_most}
 use Rattle.trie.specs.Model.{Trie, size, word_of, walk_from, holding, Proper}
 use Rattle.trie.specs.Holds.{ChildOf}
-use Rattle.trie.specs.Grow.{size_pos}
 use Rattle.trie.specs.Values.{marks_of, Noted}
-use Rattle.trie.specs.Words.{walk_some, walk_none, walk_word, walk_on, walk_at, word_root, begins_at, begins_off, holding_proper}
+use Rattle.trie.specs.Words.{root_walk, walk_some, walk_none, walk_word, walk_on, walk_at, begins_at, begins_off, holding_proper}
 use Rattle.checker_ways.specs.Kept.{KeptAt}
 
 -- what the question whether a node is marked answers
@@ -24,12 +23,9 @@ Tells marks node b = (t : Trie) (ws : List Word) → Noted t (marks_of ws) marks
 
 -- a walk from the root along w ended at a node
 module _ {t : Trie} (v : Proper t) (r : Option ℕ) (w : Word) (node : ℕ) (walked : r ≡ walk_from t 0 w) (at : r ≡ Some node) where
-  pub root_to : (node < size t) × (word_of t node ≡ w)
-  root_to = let (less, word) = walk_word v 0 node w (size_pos t) (sym walked ∙ at) in (less, word ∙ ap (λ (u : Word). u ++ w) (word_root t))
-
   pub root_known : (marks : List ℕ) (b : Bool) → Tells marks node b → b ≡ true → (ws : List Word) → Noted t (marks_of ws) marks → is_in w ws ≡ true
   root_known marks b tells yes_marked ws noted =
-      let (less, word) = root_to in
+      let (less, word) = root_walk v w r node walked at in
       ap (λ (u : Word). is_in u ws) (sym word) ∙ sym (tells t ws noted less) ∙ yes_marked
 
 -- a walk from the node p along w

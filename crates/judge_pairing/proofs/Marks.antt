@@ -12,8 +12,7 @@ use Rattle.theory.specs.Lists.{outcome}
 use Rattle.theory.specs.Words.{same_true}
 use Rattle.trie.specs.Model.{Trie, Proper, size, word_of, walk_from}
 use Rattle.trie.specs.Holds.{Holds}
-use Rattle.trie.specs.Grow.{size_pos}
-use Rattle.trie.specs.Words.{has_reaches, off_at, walk_word, word_root}
+use Rattle.trie.specs.Words.{has_reaches, off_at, root_walk}
 use Rattle.trie.specs.Values.{marks_of, Noted}
 use Rattle.judge_pairing.specs.Marked.{Marking, Knowing}
 
@@ -31,19 +30,14 @@ turn true false c = refl
 turn false b c = refl
 
 module _ (t : Trie) (w : Word) (r : Option ℕ) (proper : Proper t) (walked : r ≡ walk_from t 0 w) where
-  node_of : (node : ℕ) → r ≡ Some node → (node < size t) × (word_of t node ≡ w)
-  node_of node is =
-      let (less, word) = walk_word proper 0 node w (size_pos t) (sym walked ∙ is) in
-      (less, word ∙ rw (word_root t))
-
   pub node_inside : (label first next marks : List ℕ) (node : ℕ) → Holds t label first next → length marks ≡ length label → r ≡ Some node → node < length marks
-  node_inside label first next marks node holds long is = omega (arith, (node_of node is).0, holds.room)
+  node_inside label first next marks node holds long is = omega (arith, (root_walk proper w r node walked is).0, holds.room)
 
   -- the trie has the word, which is marked now
   pub marking_at : (node : ℕ) → r ≡ Some node → (all rest : List Word) (marks marks' : List ℕ) → Marking t all (w ∷ rest) marks
       → ((ws : List Word) → Noted t (marks_of ws) marks → node < size t → Noted t (marks_of (word_of t node ∷ ws)) marks') → Marking t all rest marks'
   marking_at node is all rest marks marks' x marked =
-      let (less, word) = node_of node is in
+      let (less, word) = root_walk proper w r node walked is in
       record {
         seen = w ∷ x.seen;
         noted = rw word at (marked x.seen x.noted less);
@@ -70,7 +64,7 @@ module _ (tests words : List Word) (label first next marks : List ℕ) (x : Know
     (walked : r ≡ walk_from x.trie 0 w) where
   pub known_at : (node : ℕ) → r ≡ Some node → (told : Bool) → ((ws : List Word) → Noted x.trie (marks_of ws) marks → node < size x.trie → told ≡ is_in (word_of x.trie node) ws) → told ≡ is_in w tests
   known_at node is told asked =
-      let (less, word) = node_of x.trie w r x.holds.proper walked node is in
+      let (less, word) = root_walk x.holds.proper w r node walked is in
       asked x.marked.seen x.marked.noted less
       ∙ ap (λ v. is_in v x.marked.seen) word
       ∙ sym (x.marked.split w (x.has w there) ∙ or_false (is_in w x.marked.seen))

@@ -8,7 +8,7 @@ use Rattle.theory.specs.Words.{same_true, same_refl, same_false, differ_same}
 use Rattle.trie.specs.Model.{Trie, size, word_of, walk_from, Proper, add_word, end_of}
 use Rattle.trie.specs.Holds.{Holds, InsertOf}
 use Rattle.trie.specs.Grow.{size_pos, add_proper, add_grows}
-use Rattle.trie.specs.Words.{Has, one_to_one, word_root, walk_word, add_word_kept, has_add_old, end_word, has_reaches}
+use Rattle.trie.specs.Words.{Has, one_to_one, root_walk, add_word_kept, has_add_old, end_word, has_reaches}
 
 -- numbers that were put for words, the last one outermost
 pub data Map : Type 0 where
@@ -92,13 +92,12 @@ noted_put t m value p h node v less fits =
 
 -- what a look_up answers
 pub reached : (t : Trie) (w : Word) → Proper t → (r : Option ℕ) (i : ℕ) → r ≡ walk_from t 0 w → r ≡ Some i → i < size t
-reached t w v r i e k = (walk_word v 0 i w (size_pos t) (sym e ∙ k)).0
+reached t w v r i e k = (root_walk v w r i e k).0
 
 pub found : (t : Trie) (m : Map) (w : Word) (value : List ℕ) → Proper t → Noted t m value → (r : Option ℕ) (i : ℕ) → r ≡ walk_from t 0 w → r ≡ Some i
     → (i < size t) × (get_or value i 0 ≡ value_of m w)
 found t m w value v h r i e k =
-    let (less, word) = walk_word v 0 i w (size_pos t) (sym e ∙ k) in
-    (less, h.values i less ∙ rw (word, word_root t))
+    let (less, word) = root_walk v w r i e k in (less, h.values i less ∙ rw word)
 
 pub missed : (t : Trie) (m : Map) (w : Word) (value : List ℕ) → Proper t → Noted t m value → (r : Option ℕ) → r ≡ walk_from t 0 w → r ≡ None → 0 ≡ value_of m w
 missed t m w value v h r e k =

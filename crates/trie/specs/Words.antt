@@ -120,6 +120,11 @@ walk_word {t} v i j (a ∷ w) h e =
           (less, word ∙ rw (child_word v i a n, append_assoc))
     ]
 
+-- a walk along a word from the root ends at the node of that word
+pub root_walk : {t : Trie} → Proper t → (w : Word) (r : Option ℕ) (j : ℕ) → r ≡ walk_from t 0 w → r ≡ Some j → (j < size t) × (word_of t j ≡ w)
+root_walk {t} v w r j walked at =
+    let (less, word) = walk_word v 0 j w (size_pos t) (sym walked ∙ at) in (less, word ∙ rw (word_root t))
+
 -- a walk goes on where its first part ended
 pub walk_on : (t : Trie) (i j : ℕ) (u w : Word) → walk_from t i u ≡ Some j → walk_from t i (u ++ w) ≡ walk_from t j w
 unfolding walk_from

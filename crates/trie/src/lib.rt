@@ -11,7 +11,8 @@ ghost use Rattle.trie.specs.Values.{Map, empty, put, value_of, marks_of, Noted};
 use numbers::wide_link;
 use rules::Input;
 
-// The three arrays of a trie, for a function that only reads them.
+// The three arrays of a trie, for a function that only reads them. One that writes is lent them apart, since its promise says of each
+// what it holds afterwards.
 #[derive(Clone, Copy)]
 pub struct Nodes<'a> {
     pub label: &'a [u8],
@@ -125,7 +126,7 @@ pub fn insert_at(
     Some((node, m))
 }
 
-// No numbers.
+// No numbers: where none was noted for a node, the array holds 0, and so no Option stands for it.
 pub fn clear_values(value: &mut [u32])
     ensures { (t : Trie) → Noted t empty value.new }
 {

@@ -20,8 +20,7 @@ use Rattle.theory.specs.Lists.{outcome, clash}
 use Rattle.theory.specs.Words.{is_in_in}
 use Rattle.trie.specs.Model.{Trie, Proper, size, word_of, walk_from, holding}
 use Rattle.trie.specs.Holds.{Holds}
-use Rattle.trie.specs.Grow.{size_pos}
-use Rattle.trie.specs.Words.{Has, word_root, walk_word, off_at, has_reaches, holding_proper, reaches, reaches_has}
+use Rattle.trie.specs.Words.{Has, root_walk, off_at, has_reaches, holding_proper, reaches, reaches_has}
 use Rattle.trie.specs.Values.{marks_of, Noted}
 use Rattle.trie_filing.specs.Distinct.{is_first, firsts, FirstPlaces, StoredOf}
 
@@ -175,16 +174,11 @@ module _ (s : List ℕ) (p : ℕ) (all rest : List Word) (w : Word) (t : Trie) (
 
 -- The word at hand, walked in the trie.
 module _ (t : Trie) (w : Word) (r : Option ℕ) (proper : Proper t) (walked : r ≡ walk_from t 0 w) where
-  walked_word : (node : ℕ) → r ≡ Some node → (node < size t) × (word_of t node ≡ w)
-  walked_word node is =
-      let (less, word) = walk_word proper 0 node w (size_pos t) (sym walked ∙ is) in
-      (less, word ∙ rw (word_root t))
-
   -- its mark was asked, and set
   pub seen_word : (node : ℕ) → r ≡ Some node → (ws : List Word) (seen : Bool) (marks : List ℕ) → (node < size t → seen ≡ is_in (word_of t node) ws) → (node < size t → Noted t (marks_of (word_of t node ∷ ws)) marks)
       → (seen ≡ is_in w ws) × Noted t (marks_of (w ∷ ws)) marks
   seen_word node is ws seen marks asked set' =
-      let (less, word) = walked_word node is in
+      let (less, word) = root_walk proper w r node walked is in
       (asked less ∙ ap (λ v. is_in v ws) word, rw word at (set' less))
 
   -- a word that the trie has is not off it
@@ -192,7 +186,7 @@ module _ (t : Trie) (w : Word) (r : Option ℕ) (proper : Proper t) (walked : r 
   seen_off has off = let (j, f) = has_reaches proper w has in off_at r j off (walked ∙ f)
 
   pub seen_below : (label first next marks : List ℕ) (node : ℕ) → Holds t label first next → length marks ≡ length label → r ≡ Some node → node < length marks
-  seen_below label first next marks node holds long is = omega (arith, (walked_word node is).0, holds.room)
+  seen_below label first next marks node holds long is = omega (arith, (root_walk proper w r node walked is).0, holds.room)
 
 -- The loop over the c words from p on, at the word number i.
 module _ (s : List ℕ) (p k c : ℕ) where

@@ -49,7 +49,8 @@ fn store_first(
     n + 1
 }
 
-// The numbers and the places of the words from a place on, each word once, where it stands first. All of them are in the trie.
+// The numbers and the places of the words from a place on, each word once, where it stands first. All of them are in the trie. The
+// answer is how many they are: they stand at the front of arrays that have room for all words, and who reads them is told so.
 pub fn find_firsts(
     bytes: &[u8],
     place: usize,
