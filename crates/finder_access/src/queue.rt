@@ -1,5 +1,5 @@
-// The queue of the states that have been met, and the places of the states in it. An entry is one number, since a slice of structs
-// cannot be lent: the entry that it was met from, the input, and the state.
+// The queue of the states that have been met, and the places of the states in it. An entry is one number: the entry
+// that it was met from, the input, and the state. What it says is divided out (`specs/Queue.antt`), and the search's laws order steps by it.
 ghost use Rattle.std.specs.Prelude.{◌≡◌, ◌-◌, ◌<◌, length, get_or};
 ghost use Rattle.rules.specs.Sizes.{most_inputs, most_states};
 ghost use Rattle.theory.specs.Breadth.{step_of};

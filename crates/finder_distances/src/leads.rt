@@ -4,47 +4,41 @@ ghost use Rattle.std.specs.Prelude.{◌≡◌, ◌<◌, ℕ, Bool};
 ghost use Rattle.rules.specs.declared.Input.{Input};
 ghost use Rattle.rules.specs.Lists.{first, numbers};
 ghost use Rattle.finder_distances.specs.Marks.{mark_of};
-ghost use Rattle.reader.specs.Standing.{UnitAt};
 ghost use Rattle.finder_distances.specs.Leads.{machine_of_unit, nears, leads, lead_of, Tests};
 
 use crate::marks::distance_at;
 use crate::outputs::outputs_differ;
-use reader::UnitShape;
+use finder_unit::GoldenUnit;
 use rules::{GoldenState, Input};
-use walker::Table;
 
 // The distance of the two states that an input leads to from two states.
 fn next_distance(
-    unit: &[u8],
-    x: UnitShape,
+    unit: &GoldenUnit<'_>,
     distances: &[u8; 4096],
     p: GoldenState,
     q: GoldenState,
     input: Input,
 ) -> u8
-    requires unit_at { UnitAt unit.now x }
-    requires p_lt_states { (p.0 < x.states) × (q.0 < x.states) × (input.0 < x.inputs) }
-    ensures { result ≡ mark_of distances.now ((machine_of_unit unit.now x).next p.0 input.0) ((machine_of_unit unit.now x).next q.0 input.0) }
+    requires p_lt_states { (p.0 < unit.now.shape.states) × (q.0 < unit.now.shape.states) × (input.0 < unit.now.shape.inputs) }
+    ensures { result ≡ mark_of distances.now ((machine_of_unit unit.now.bytes.now unit.now.shape).next p.0 input.0) ((machine_of_unit unit.now.bytes.now unit.now.shape).next q.0 input.0) }
 {
-    let table = Table::standing(unit, x.table, x.inputs, x.states);
+    let table = unit.table();
     distance_at(distances, table.next(p, input), table.next(q, input))
 }
 
 // Whether an input leads from two states to two of a given distance.
 fn comes_near(
-    unit: &[u8],
-    x: UnitShape,
+    unit: &GoldenUnit<'_>,
     distances: &[u8; 4096],
     p: GoldenState,
     q: GoldenState,
     distance: u8,
     input: Input,
 ) -> bool
-    requires unit_at { UnitAt unit.now x }
-    requires p_lt_states { (p.0 < x.states) × (q.0 < x.states) × (input.0 < x.inputs) }
-    ensures { result ≡ nears (machine_of_unit unit.now x) distances.now distance p.0 q.0 input.0 }
+    requires p_lt_states { (p.0 < unit.now.shape.states) × (q.0 < unit.now.shape.states) × (input.0 < unit.now.shape.inputs) }
+    ensures { result ≡ nears (machine_of_unit unit.now.bytes.now unit.now.shape) distances.now distance p.0 q.0 input.0 }
 {
-    next_distance(unit, x, distances, p, q, input) == distance
+    next_distance(unit, distances, p, q, input) == distance
 }
 
 // The lowest input that passes a test.
@@ -63,22 +57,20 @@ fn lowest_input<F: Fn(Input) -> bool>(inputs: u8, test: F) -> Option<Input>
 
 // The lowest input behind which `left` inputs more tell two states apart: none more where their outputs differ.
 pub fn find_lead(
-    unit: &[u8],
-    x: UnitShape,
+    unit: &GoldenUnit<'_>,
     distances: &[u8; 4096],
     p: GoldenState,
     q: GoldenState,
     left: u8,
 ) -> Option<Input>
-    requires unit_at { UnitAt unit.now x }
-    requires p_lt_states { (p.0 < x.states) × (q.0 < x.states) }
-    ensures { result ≡ lead_of (first (leads (machine_of_unit unit.now x) distances.now left p.0 q.0) (numbers x.inputs)) }
+    requires p_lt_states { (p.0 < unit.now.shape.states) × (q.0 < unit.now.shape.states) }
+    ensures { result ≡ lead_of (first (leads (machine_of_unit unit.now.bytes.now unit.now.shape) distances.now left p.0 q.0) (numbers unit.now.shape.inputs)) }
 {
     if left == 0 {
-        return lowest_input(x.inputs, |input| outputs_differ(unit, x, p, q, input));
+        return lowest_input(unit.shape.inputs, |input| outputs_differ(unit, p, q, input));
     }
     lowest_input(
-        x.inputs,
-        |input| comes_near(unit, x, distances, p, q, left, input),
+        unit.shape.inputs,
+        |input| comes_near(unit, distances, p, q, left, input),
     )
 }

@@ -1,13 +1,12 @@
 // The places of the words that are kept.
 ghost use Rattle.std.specs.Prelude.{◌≡◌, length};
-ghost use Rattle.reader.specs.Standing.{UnitAt};
 ghost use Rattle.finder_distances.specs.Rounds.{DistancesAt};
 ghost use Rattle.finder_telling.specs.Pairs.{AllTold};
 ghost use Rattle.finder_spelling.specs.Spelt.{text_room, most_words};
 ghost use Rattle.finder_separators.specs.Kept.{TextAt, KeptAt, SeparatorsAt};
 
 use finder_spelling::spell_words;
-use reader::UnitShape;
+use finder_unit::GoldenUnit;
 use trie::Nodes;
 use trie_filing::{find_firsts, node_bytes, node_links, put_words};
 
@@ -66,20 +65,18 @@ fn find_kept(text: &[u8], inputs: u8, count: usize, places: &mut [u16]) -> usize
 
 // Spells the words in the text, and finds the places of those that are kept. The answer is how many they are.
 pub fn find_separators(
-    unit: &[u8],
-    x: UnitShape,
+    unit: &GoldenUnit<'_>,
     distances: &[u8; 4096],
     text: &mut [u8],
     places: &mut [u16],
 ) -> usize
-    requires unit_at { UnitAt unit.now x }
-    requires distances_at { DistancesAt unit.now x distances.now }
-    requires all_told { AllTold x.states distances.now }
+    requires distances_at { DistancesAt unit.now.bytes.now unit.now.shape distances.now }
+    requires all_told { AllTold unit.now.shape.states distances.now }
     requires text_len { (length text.old ≡ text_room) × (length places.old ≡ most_words) }
-    ensures { SeparatorsAt unit.now x distances.now text.new places.new result }
+    ensures { SeparatorsAt unit.now.bytes.now unit.now.shape distances.now text.new places.new result }
 {
-    let inputs = x.inputs;
-    let count = spell_words(unit, x, distances, text);
+    let inputs = unit.shape.inputs;
+    let count = spell_words(unit, distances, text);
     let distinct = find_kept(text, inputs, count, places);
     distinct
 }

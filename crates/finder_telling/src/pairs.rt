@@ -9,7 +9,11 @@ use finder_distances::distance_at;
 use rules::GoldenState;
 
 // The lowest of them with the first state p.
-fn untold_row(distances: &[u8; 4096], states: u8, p: GoldenState) -> Option<(GoldenState, GoldenState)>
+fn untold_row(
+    distances: &[u8; 4096],
+    states: u8,
+    p: GoldenState,
+) -> Option<(GoldenState, GoldenState)>
     requires p_lt_states { (p.0 < states) × (states ≤ most_states) }
     requires told_before { ToldBefore states distances.now (place_of p.0 0) }
     ensures { RowOf states distances.now p.0 result }

@@ -5,6 +5,6 @@ use Rattle.finder_distances.proofs.rounds.find_distances.Given as goal
 
 abbrev pub invariant-loop-rounds : goal.invariant-loop-rounds
 invariant-loop-rounds l = record {
-  midway : Midway l.x.inputs (machine_of_unit l.unit l.x) l.rounds 0 false l.distances;
+  midway : Midway l.unit.shape.inputs (machine_of_unit l.unit.bytes.now l.unit.shape) l.rounds 0 false l.distances;
   long : length l.distances ≡ length l.initial.distances;
 }

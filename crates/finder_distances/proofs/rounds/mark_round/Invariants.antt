@@ -6,6 +6,6 @@ use Rattle.finder_distances.proofs.rounds.mark_round.Given as goal
 
 abbrev pub invariant-loop-p : goal.invariant-loop-p
 invariant-loop-p l = record {
-  midway : Midway l.x.inputs (machine_of_unit l.unit l.x) l.rounds (place_of l.p 0) l.changed l.distances;
+  midway : Midway l.unit.shape.inputs (machine_of_unit l.unit.bytes.now l.unit.shape) l.rounds (place_of l.p 0) l.changed l.distances;
   long : length l.distances ≡ length l.initial.distances;
 }

@@ -6,7 +6,7 @@ use Rattle.finder_distances.proofs.rounds.mark_row.Given as goal
 
 abbrev pub invariant-loop-q : goal.invariant-loop-q
 invariant-loop-q l = record {
-  midway : Midway l.x.inputs (machine_of_unit l.unit l.x) l.rounds (place_of l.p.0 l.q) l.changed l.distances;
+  midway : Midway l.unit.shape.inputs (machine_of_unit l.unit.bytes.now l.unit.shape) l.rounds (place_of l.p.0 l.q) l.changed l.distances;
   long : length l.distances ≡ length l.initial.distances;
   above : l.p.0 < l.q;
 }

@@ -11,7 +11,7 @@ some_else None lacking = absurd (lacking refl)
 some_else (Some input) lacking = search rules
 
 pub unwrap-requires : goal.unwrap-requires
-unwrap-requires c = some_else c.find_lead.result (input_lacking c.args.x.inputs (machine_of_unit c.args.unit.now c.args.x) (unit_whole c.args.unit.now c.args.x c.requires.unit_at) c.args.distances.now (c.args.x.states - 1) c.requires.distances_at.marked c.args.p.0 c.args.q.0 c.requires.p_lt_states.0 c.requires.p_lt_states.1 c.args.left c.requires.p_lt_states.2 _ c.find_lead.ensures)
+unwrap-requires c = some_else c.find_lead.result (input_lacking c.args.unit.now.shape.inputs (machine_of_unit c.args.unit.now.bytes.now c.args.unit.now.shape) (unit_whole c.args.unit.now.bytes.now c.args.unit.now.shape c.args.unit.now.stands) c.args.distances.now (c.args.unit.now.shape.states - 1) c.requires.distances_at.marked c.args.p.0 c.args.q.0 c.requires.p_lt_states.0 c.requires.p_lt_states.1 c.args.left c.requires.p_lt_states.2 _ c.find_lead.ensures)
 
 pub returns : goal.returns
-returns c = input_found c.args.x.inputs (machine_of_unit c.args.unit.now c.args.x) (unit_whole c.args.unit.now c.args.x c.requires.unit_at) c.args.distances.now (c.args.x.states - 1) c.requires.distances_at.marked c.args.p.0 c.args.q.0 c.requires.p_lt_states.0 c.requires.p_lt_states.1 c.args.left c.requires.p_lt_states.2 _ c.find_lead.ensures _ c.unwrap.ensures
+returns c = input_found c.args.unit.now.shape.inputs (machine_of_unit c.args.unit.now.bytes.now c.args.unit.now.shape) (unit_whole c.args.unit.now.bytes.now c.args.unit.now.shape c.args.unit.now.stands) c.args.distances.now (c.args.unit.now.shape.states - 1) c.requires.distances_at.marked c.args.p.0 c.args.q.0 c.requires.p_lt_states.0 c.requires.p_lt_states.1 c.args.left c.requires.p_lt_states.2 _ c.find_lead.ensures _ c.unwrap.ensures
