@@ -41,7 +41,7 @@ pub fn next_field(text: &[u8], from: usize, end: usize) -> Part
     Part { start, end: stop }
 }
 
-// 1 for a field, 0 where there was none.
+// How many fields a part is.
 fn held(part: Part) -> u8
     ensures { (result ≡ held_of part) × (result ≤ 1) }
 {

@@ -1,4 +1,5 @@
-// The names of a text's states (docs/KISS2.md, rule 7), each once, as they were met: 16 bytes for each of 64, and their lengths.
+// The names of a text's states (docs/KISS2.md, rule 7), each once, as they were met. In fixed memory: 16 bytes for each of 64, and their
+// lengths beside them.
 #![tactic(auto)]
 
 ghost use Rattle.std.specs.Prelude.{◌≡◌, List, [], ◌∷◌, ◌++◌, ◌-◌, ◌≤◌, ◌<◌, length};
@@ -34,7 +35,7 @@ fn is_named(text: &[u8], part: Part, names: &[u8], lengths: &[u8], j: usize) -> 
     names[to - 1] == text[end - 1] && same_text(&names[from..to], &text[start..end])
 }
 
-// The number of a name; as many as there are, where it is none of them.
+// The number of a name; as many as there are, where it is none of them: the place of a new name, as the rules count it.
 pub fn find_name(text: &[u8], part: Part, names: &[u8], lengths: &[u8], count: usize) -> usize
     requires field_in { FieldIn text.now part }
     requires slots_in { SlotsIn names.now lengths.now count }

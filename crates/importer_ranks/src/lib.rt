@@ -1,5 +1,6 @@
 // The numbers of a text's states (docs/KISS2.md, "What comes of it"). A table holds them: for each name, by its number among the names as
-// they were met, one more than its number as a state, or 0 where it has none yet.
+// they were met, one more than its number as a state, or 0 where it has none yet. So the table is a list of numbers, of
+// which the unit is written.
 #![tactic(auto)]
 
 ghost use Rattle.std.specs.Prelude.{◌≡◌, List, ◌++◌, not, ◌+◌, ◌≤◌, ◌<◌, length};

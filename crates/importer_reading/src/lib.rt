@@ -1,5 +1,6 @@
 // The lines of a text one after the other (document 02, L2; docs/KISS2.md): what each adds to what was said before it, or the line that
-// may not follow, or contradicts. Names, entries and numbers of states are kept in five tables that the caller lends.
+// may not follow, or contradicts. Names, entries and numbers of states are kept in five tables that the caller lends, one by one:
+// a line is lent those that it may change.
 #![tactic(auto)]
 
 mod directives;

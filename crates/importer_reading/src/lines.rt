@@ -89,6 +89,7 @@ pub fn read_lines(
     let mut x = nothing_said();
     let mut line = 1;
     let mut from = 0;
+    // Each line begins behind the end of the one before it.
     while from < text.len() {
         let end = line_end(text, from);
         match follow_line(text, from, end, names, lengths, nexts, outputs, ranks, x) {
