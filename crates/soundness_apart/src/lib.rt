@@ -15,13 +15,7 @@ use rules::GoldenState;
 use walker::{Table, answer_alike, word_end};
 
 // Whether two states of the golden answer the word at a place alike.
-fn answers_alike(
-    bytes: &[u8],
-    x: DossierShape,
-    p: GoldenState,
-    q: GoldenState,
-    word: usize,
-) -> bool
+fn answers_alike(bytes: &[u8], x: DossierShape, p: GoldenState, q: GoldenState, word: usize) -> bool
     requires table { TableAt bytes.now x.table x.inputs x.states }
     requires p_lt_states { (p.0 < x.states) × (q.0 < x.states) }
     requires word_at { WordAt bytes.now word x.inputs }

@@ -9,11 +9,13 @@ use Rattle.soundness_apart.proofs.find_telling.Goals as goal
 
 pub returns-then-not-answers_alike : goal.returns-then-not-answers_alike
 returns-then-not-answers_alike c =
-    let Separator : Word → Type 0 = λ v. v ∈ separators_at c.args.bytes.now c.args.x in
-    (record {
-      stands = (turn _ _ _ _ _ c.loop-test.true c.loop.invariant.stand).here;
-      member = word_member _ _ _ _ _ c.loop-test.true c.loop.invariant.stand Separator c.loop.invariant.members;
-    }, sym c.answers_alike.ensures ∙ not-true _ (ap not c.if-not-answers_alike.true))
+    let Separator : Word → Type 0 = λ v. v ∈ separators_at c.args.bytes.now c.args.x in (
+      record {
+        stands = (turn _ _ _ _ _ c.loop-test.true c.loop.invariant.stand).here;
+        member = word_member _ _ _ _ _ c.loop-test.true c.loop.invariant.stand Separator c.loop.invariant.members;
+      },
+      sym c.answers_alike.ensures ∙ not-true _ (ap not c.if-not-answers_alike.true),
+    )
 
 pub loop-preserved : goal.loop-preserved
 loop-preserved c =
