@@ -8,7 +8,7 @@ ghost use Rattle.finder_separators.specs.Kept.{TextAt, KeptAt, SeparatorsAt};
 use finder_spelling::spell_words;
 use finder_unit::GoldenUnit;
 use trie::Nodes;
-use trie_filing::{find_firsts, node_bytes, node_links, put_words};
+use trie_filing::{find_firsts, put_words, NODES};
 
 // A place for each word.
 pub fn place_room() -> [u16; 2016]
@@ -45,10 +45,10 @@ fn find_kept(text: &[u8], inputs: u8, count: usize, places: &mut [u16]) -> usize
     requires places_len { length places.old ≡ most_words }
     ensures { KeptAt text.now count places.new result }
 {
-    let mut label = node_bytes();
-    let mut first = node_links();
-    let mut next = node_links();
-    let mut marks = node_bytes();
+    let mut label = [0; NODES];
+    let mut first = [0; NODES];
+    let mut next = [0; NODES];
+    let mut marks = [0; NODES];
     let mut numbers = place_room();
     find_in(
         text,
