@@ -1,5 +1,5 @@
 -- Pairs of a golden state and a unit state as numbers below 4,096, and what an input does at a pair.
-use Rattle.std.specs.Prelude.{ℕ, ◌+◌, ◌*◌, ◌≤◌, ◌<◌, ◌/◌, ◌%◌, ◌≡◌, List, Option, Some, None, cond, eqb}
+use Rattle.std.specs.Prelude.{ℕ, ◌+◌, ◌*◌, ◌≤◌, ◌<◌, ◌/◌, ◌%◌, ◌≡◌, Option, Some, None, cond, eqb}
 use Rattle.rules.specs.Sizes.{most_inputs, most_states}
 use Rattle.rules.specs.Machines.{Machine}
 

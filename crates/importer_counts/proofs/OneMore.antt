@@ -1,19 +1,19 @@
 -- Laws of what is counted: one line more.
-use Prim.Native.Nat.{ℕ, zero, suc, ◌+◌, ◌≤◌, ◌<◌}
+use Prim.Native.Nat.{ℕ, suc, ◌+◌, ◌≤◌}
 use native.Mathlib.Omega.{arith}
 use mathlib.Core.Path.{◌≡◌, refl, sym, ap, ◌∙◌}
 use mathlib.Core.Logic.{◌≢◌}
 use mathlib.Core.List.{List, [], ◌∷◌, ◌++◌, flat_map, append-nil}
-use mathlib.Core.Bool.{Bool, true, false, not, ◌&&◌, ◌||◌}
+use mathlib.Core.Bool.{Bool, true, false, not, ◌||◌}
 use lib.ListN.{length, length-append}
-use borrow.Author.Tests.{eq-eqb, ne_eqb, not-true, not-false}
+use borrow.Author.Tests.{eq-eqb, not-true, not-false}
 use lib.Dec.{eqb, leb}
 use Rattle.rules.specs.Lists.{any, all}
 use Rattle.rules.specs.Line.{text}
 use Rattle.rules.specs.Kiss2.{Field, Says, number, reset, term, end, Term, number_of, reset_of, term_of, is_end, numbers_in, resets_in, terms_in, names_in, ended, is_empty, is_whole}
 use Rattle.theory.specs.Lists.{flat_map_last}
 use Rattle.importer_counts.specs.declared.Counts.{Counts}
-use Rattle.std.specs.Prelude.{Option, None, Some, option_to_list}
+use Rattle.std.specs.Prelude.{None, Some, option_to_list}
 use Rattle.importer_counts.specs.Counts.{CountsAt, Counted, term_fits, TermCounted}
 
 any_last : {A : Type 0} (test : A → Bool) (l : List A) (x : A) → any test (l ++ (x ∷ [])) ≡ (any test l || test x)

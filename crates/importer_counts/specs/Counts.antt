@@ -1,5 +1,5 @@
 -- What the program keeps of the lines so far, in the words of the rules.
-use Rattle.std.specs.Prelude.{ℕ, suc, ◌≤◌, ◌≡◌, List, [], ◌∷◌, ◌++◌, Bool, true, false, not, ◌&&◌, eqb, leb, length, Option, None, Some, option_to_list, unwrap_or}
+use Rattle.std.specs.Prelude.{suc, ◌≤◌, ◌≡◌, List, [], ◌∷◌, ◌++◌, Bool, true, false, not, ◌&&◌, eqb, leb, length, Option, None, Some, option_to_list, unwrap_or}
 use Rattle.rules.specs.Lists.{any, all}
 use Rattle.rules.specs.Line.{text}
 use Rattle.rules.specs.Kiss2.{Says, term, Term, numbers_in, resets_in, terms_in, ended, is_empty, may_follow}

@@ -1,5 +1,5 @@
 -- What an iterator's `position` finds in a part of a text, as a place in the text.
-use Rattle.std.proofs.Common.{◌≡◌, ℕ, ◌+◌, ◌-◌, ◌≤◌, ◌<◌, List, Bool, true, false, length, get_or, arith, sym, ◌∙◌}
+use Rattle.std.proofs.Common.{◌≡◌, ℕ, ◌+◌, ◌-◌, ◌≤◌, ◌<◌, List, Bool, true, false, length, get_or, arith, sym}
 use Rattle.std.proofs.lemmas.List.{get_or-take, get_or-drop, length-drop, length-take-le}
 use Rattle.std.specs.List.{AllWithin, HoldsAt}
 use Rattle.std.specs.Prelude.{Option, None, Some, MatchOption, unwrap_or}

@@ -1,5 +1,5 @@
 -- Laws of a line that says a term.
-use Prim.Native.Nat.{ℕ, zero, suc, ◌-◌, ◌≤◌}
+use Prim.Native.Nat.{ℕ, suc, ◌-◌, ◌≤◌}
 use native.Mathlib.Omega.{arith}
 use mathlib.Core.Path.{◌≡◌, refl, sym, ap, ◌∙◌, subst}
 use mathlib.Core.Logic.{inl, inr}

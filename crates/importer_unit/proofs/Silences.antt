@@ -12,7 +12,7 @@ use borrow.Author.Tests.{eq-eqb, ne_eqb}
 use lib.ListN.{length, get_or}
 use Rattle.rules.specs.Lists.{◌∈◌, numbers_from, numbers, first}
 use Rattle.rules.specs.Sizes.{most_inputs, most_states}
-use Rattle.rules.specs.Answers.{unit_state, input_of}
+use Rattle.rules.specs.Answers.{unit_state}
 use Rattle.rules.specs.declared.UnitState.{UnitState}
 use Rattle.rules.specs.declared.Input.{Input}
 use Rattle.rules.specs.Kiss2.{Field, Term, is_about, is_silent, grid, place_in}

@@ -7,7 +7,7 @@ use mathlib.Core.List.Memᴰ
 use mathlib.Core.List.{List, [], ◌∷◌, ◌++◌, map, flat_map}
 use mathlib.Core.Bool.{Bool, true, false}
 use mathlib.Core.Option.{none, some}
-use lib.ListN.{length, get_or, take, length-append}
+use lib.ListN.{length, take, length-append}
 use Rattle.rules.specs.Lists.{◌∈◌, sum, placed, placed_from, first}
 use Rattle.rules.specs.Words.{Word}
 use Rattle.rules.specs.Files.{SheetRecord, word_bytes}

@@ -1,11 +1,11 @@
 -- Laws of the searches over a section of words.
 use Prim.Native.Nat.{ℕ, ◌+◌, ◌-◌, ◌≤◌, ◌<◌}
 use native.Mathlib.Omega.{arith}
-use mathlib.Core.Path.{◌≡◌, refl, sym, ◌∙◌}
+use mathlib.Core.Path.{◌≡◌, refl}
 use mathlib.Core.List.Memᴰ
 use mathlib.Core.List.{List, [], ◌∷◌}
 use mathlib.Core.Bool.{Bool, true}
-use lib.ListN.{length, get_or}
+use lib.ListN.{length}
 use Rattle.rules.specs.Lists.{◌∈◌, all}
 use Rattle.rules.specs.Words.{Word, is_in}
 use Rattle.reader.specs.Places.{word_at, after_word, words_at, WordsAt}

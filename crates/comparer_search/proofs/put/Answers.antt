@@ -1,5 +1,3 @@
-use native.Mathlib.Omega.{arith}
-use mathlib.Core.Path.{sym, ◌∙◌}
 use Rattle.comparer_search.proofs.Trying.{put_met, put_new}
 use Rattle.comparer_search.proofs.put.Goals as goal
 

@@ -1,5 +1,4 @@
-use Rattle.finder_spelling.proofs.Rows.{rows_begin, rows_size, rows_room, rows_few, rows_next, rows_end}
-use Prim.Native.Nat.{◌-◌}
+use Rattle.finder_spelling.proofs.Rows.{rows_begin, rows_room, rows_few, rows_next, rows_end}
 use native.Mathlib.Omega.{arith}
 use Rattle.finder_spelling.proofs.spell_pairs.Goals as goal
 

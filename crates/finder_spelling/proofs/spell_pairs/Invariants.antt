@@ -1,5 +1,4 @@
 use Rattle.finder_spelling.proofs.Rows.{InRows}
-use Prim.Native.Nat.{◌-◌}
 use Rattle.finder_spelling.proofs.spell_pairs.Given as goal
 
 abbrev pub invariant-loop-p : goal.invariant-loop-p

@@ -1,5 +1,4 @@
-use Rattle.finder_spelling.proofs.Rows.{row_start, row_room, row_next, row_end, row_size}
-use Prim.Native.Nat.{◌-◌}
+use Rattle.finder_spelling.proofs.Rows.{row_start, row_room, row_next, row_end}
 use native.Mathlib.Omega.{arith}
 use Rattle.finder_spelling.proofs.spell_row.Goals as goal
 

@@ -1,5 +1,5 @@
 use Rattle.finder_spelling.proofs.Rows.{InRow}
-use Prim.Native.Nat.{◌<◌, ◌-◌}
+use Prim.Native.Nat.{◌<◌}
 use Rattle.finder_spelling.proofs.spell_row.Given as goal
 
 abbrev pub invariant-loop-q : goal.invariant-loop-q

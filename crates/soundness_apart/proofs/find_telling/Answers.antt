@@ -1,8 +1,8 @@
-use Rattle.std.proofs.Common.{refl, sym, ◌∙◌, ap, not}
+use Rattle.std.proofs.Common.{sym, ◌∙◌, ap, not}
 use borrow.Author.Tests.{not-true, not-false}
 use Rattle.rules.specs.Lists.{◌∈◌}
 use Rattle.rules.specs.Words.{Word}
-use Rattle.walker.proofs.Turns.{turn, turns_start}
+use Rattle.walker.proofs.Turns.{turn}
 use Rattle.soundness_apart.specs.Separating.{golden_at, separators_at, alike_on}
 use Rattle.soundness_reach.proofs.Sections.{word_member, rest_members, all_next, all_end}
 use Rattle.soundness_apart.proofs.find_telling.Goals as goal

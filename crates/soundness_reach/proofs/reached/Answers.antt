@@ -1,4 +1,4 @@
-use Rattle.std.proofs.Common.{arith, sym, ◌∙◌, length, ◌<◌}
+use Rattle.std.proofs.Common.{arith, ◌∙◌, length, ◌<◌}
 use lib.ListN.{length-set}
 use Rattle.walker.proofs.Turns.{turn, turns_start}
 use Rattle.soundness_reach.proofs.Marks.{unmarked-length, marking_start, marking_next, marking_end}

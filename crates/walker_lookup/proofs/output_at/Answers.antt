@@ -1,7 +1,6 @@
-use Rattle.std.proofs.Common.{arith}
 use Rattle.reader.specs.Places.{word_at}
 use Rattle.walker.specs.Machines.{machine_in}
-use Rattle.walker_lookup.proofs.Lookups.{ahead_next, ahead_here}
+use Rattle.walker_lookup.proofs.Lookups.{ahead_next}
 use Rattle.walker_lookup.proofs.output_at.Goals as goal
 
 pub loop-i-preserved : goal.loop-i-preserved

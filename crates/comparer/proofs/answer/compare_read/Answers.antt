@@ -1,4 +1,4 @@
-use Rattle.comparer.proofs.Answering.{other_inputs, comparable, first_answers}
+use Rattle.comparer.proofs.Answering.{other_inputs, first_answers}
 use Rattle.comparer.proofs.answer.compare_read.Goals as goal
 
 pub returns-then-inputs-y : goal.returns-then-inputs-y

@@ -1,4 +1,3 @@
-use Rattle.std.proofs.Common.{sym, ◌∙◌}
 use Rattle.walker.specs.Machines.{machine_in}
 use Rattle.comparer.proofs.Answering.{found_at, answers_nowhere, answers_at}
 use Rattle.comparer.proofs.answer.compare_sides.Goals as goal

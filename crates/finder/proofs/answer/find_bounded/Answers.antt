@@ -1,5 +1,3 @@
-use mathlib.Core.Path.{sym}
-use Rattle.reader.specs.Standing.{unit_at_lem}
 use Rattle.finder.proofs.Finding.{fault_none, fault_refuses}
 use Rattle.finder.proofs.answer.find_bounded.Goals as goal
 

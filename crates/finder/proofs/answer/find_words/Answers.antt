@@ -1,5 +1,4 @@
 use mathlib.Core.Path.{sym}
-use Rattle.reader.specs.Standing.{unit_at_lem}
 use Rattle.finder.proofs.Finding.{all_told}
 use Rattle.finder.proofs.answer.find_words.Goals as goal
 

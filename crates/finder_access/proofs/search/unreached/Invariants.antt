@@ -1,4 +1,4 @@
-use Prim.Native.Nat.{◌≤◌, ◌-◌}
+use Prim.Native.Nat.{◌-◌}
 use mathlib.Core.Path.{◌≡◌}
 use Rattle.rules.specs.Lists.{first, numbers_from}
 use Rattle.rules.specs.Files.{UnitData}

@@ -1,5 +1,4 @@
 use Rattle.finder_separators.proofs.Copying.{Copying}
-use Prim.Native.Nat.{◌-◌}
 use Rattle.finder_separators.proofs.written.copy_word.Given as goal
 
 abbrev pub invariant-loop-i : goal.invariant-loop-i

@@ -1,6 +1,4 @@
 use Rattle.finder_separators.proofs.Copying.{measure_start, measure_next, measure_end}
-use Prim.Native.Nat.{◌-◌}
-use native.Mathlib.Omega.{arith}
 use Rattle.finder_separators.proofs.written.separators_size.Goals as goal
 
 pub loop-j-init : goal.loop-j-init

@@ -1,5 +1,4 @@
 use Rattle.finder_separators.proofs.Copying.{Measuring}
-use Prim.Native.Nat.{◌-◌}
 use Rattle.finder_separators.proofs.written.separators_size.Given as goal
 
 abbrev pub invariant-loop-j : goal.invariant-loop-j

@@ -1,6 +1,4 @@
-use Rattle.finder_separators.proofs.Copying.{list_start, list_size, list_room, list_next, list_end}
-use Prim.Native.Nat.{◌-◌}
-use native.Mathlib.Omega.{arith}
+use Rattle.finder_separators.proofs.Copying.{list_start, list_room, list_next, list_end}
 use Rattle.finder_separators.proofs.written.write_separators.Goals as goal
 
 pub loop-j-init : goal.loop-j-init

@@ -1,5 +1,4 @@
 use Rattle.finder_separators.proofs.Copying.{Listing}
-use Prim.Native.Nat.{◌-◌}
 use Rattle.finder_separators.proofs.written.write_separators.Given as goal
 
 abbrev pub invariant-loop-j : goal.invariant-loop-j

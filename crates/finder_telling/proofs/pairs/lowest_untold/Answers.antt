@@ -1,5 +1,4 @@
 use Rattle.finder_telling.proofs.Lowest.{none_before, none_found, row_at, row_nowhere}
-use Prim.Native.Nat.{◌-◌}
 use native.Mathlib.Omega.{arith}
 use Rattle.finder_telling.proofs.pairs.lowest_untold.Goals as goal
 

@@ -1,6 +1,5 @@
 use Rattle.finder_telling.specs.Pairs.{ToldBefore}
 use Rattle.finder_distances.specs.Marks.{place_of}
-use Prim.Native.Nat.{◌-◌}
 use Rattle.finder_telling.proofs.pairs.lowest_untold.Given as goal
 
 abbrev pub invariant-loop-p : goal.invariant-loop-p

@@ -1,5 +1,4 @@
 use Rattle.finder_telling.proofs.Lowest.{row_start, row_end, told_next, row_found}
-use Prim.Native.Nat.{◌-◌}
 use native.Mathlib.Omega.{arith}
 use Rattle.finder_telling.proofs.pairs.untold_row.Goals as goal
 

@@ -1,6 +1,6 @@
 use Rattle.finder_telling.specs.Pairs.{ToldBefore}
 use Rattle.finder_distances.specs.Marks.{place_of}
-use Prim.Native.Nat.{◌<◌, ◌-◌}
+use Prim.Native.Nat.{◌<◌}
 use Rattle.finder_telling.proofs.pairs.untold_row.Given as goal
 
 abbrev pub invariant-loop-q : goal.invariant-loop-q

@@ -1,7 +1,6 @@
 use mathlib.Core.Path.{refl, ◌∙◌}
 use Rattle.importer_reading.proofs.AllLines.{reading_start, reading_held, read_done, read_wrong, read_goes}
 use native.Mathlib.Omega.{arith}
-use Prim.Native.Nat.{◌-◌}
 use Rattle.importer_reading.proofs.lines.read_lines.Goals as goal
 
 pub loop-from-init : goal.loop-from-init

@@ -1,5 +1,4 @@
 use native.Mathlib.Omega.{arith}
-use Prim.Native.Nat.{◌-◌}
 use Rattle.importer_says.proofs.Values.{reading_start, digit_at, number_small, reading_next, reading_end}
 use Rattle.importer_says.proofs.fields.value_of.Goals as goal
 

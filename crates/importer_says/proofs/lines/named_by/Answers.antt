@@ -1,5 +1,5 @@
 use Rattle.theory.specs.Words.{same_true}
-use Rattle.std.proofs.Common.{◌≡◌, sym, ◌∙◌, true, false}
+use Rattle.std.proofs.Common.{◌≡◌, true, false}
 use Rattle.rules.specs.Words.{same}
 use Rattle.importer_says.specs.declared.Directive.TheVariants.{Inputs, Outputs, Terms, States}
 use Rattle.importer_says.specs.Directives.{name_of, reset_name}

@@ -1,6 +1,6 @@
 use native.Mathlib.Omega.{arith}
 use mathlib.Core.Path.{ap, ◌∙◌}
-use Rattle.theory.specs.Wrote.{writing_start, writing_size, writing_end}
+use Rattle.theory.specs.Wrote.{writing_start, writing_end}
 use Rattle.importer_terms.specs.Entries.{entry_place}
 use Rattle.importer_unit.proofs.Holding.{row_long, row_start, row_end, row_room, row_again}
 use Rattle.importer_unit.proofs.writing.write_row.Goals as goal

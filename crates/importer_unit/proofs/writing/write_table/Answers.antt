@@ -1,5 +1,5 @@
 use native.Mathlib.Omega.{arith}
-use Rattle.theory.specs.Wrote.{writing_start, writing_size, writing_end}
+use Rattle.theory.specs.Wrote.{writing_start, writing_end}
 use Rattle.importer_unit.proofs.Holding.{row_of, held_long, held_start, held_end, held_room, held_again}
 use Rattle.importer_unit.proofs.writing.write_table.Goals as goal
 

@@ -1,4 +1,4 @@
-use Rattle.std.proofs.Common.{arith, sym, ap, ◌∙◌}
+use Rattle.std.proofs.Common.{arith}
 use Rattle.std.proofs.lemmas.Grind.{common_steps}
 use Rattle.walker.proofs.Steps.{differ_none}
 use Rattle.walker.proofs.answers.answer_alike.Goals as goal

@@ -2,7 +2,7 @@ use Rattle.std.proofs.Common.{◌≤◌, ◌<◌, length, get_or, not, ap, arith
 use Rattle.reader.specs.Places.{word_at, after_word, outputs_at}
 use Rattle.walker.specs.Machines.{machine_in}
 use Rattle.walker.proofs.Tables.{recorded_long}
-use Rattle.walker.proofs.Steps.{differ_start, recorded_more, recorded_found, recorded_end}
+use Rattle.walker.proofs.Steps.{differ_start, recorded_more, recorded_end}
 use Rattle.walker.proofs.records.recorded_difference.Goals as goal
 
 pub loop-step-init : goal.loop-step-init
