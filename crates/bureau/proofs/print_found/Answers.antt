@@ -1,5 +1,5 @@
 use Rattle.bureau_lines.proofs.Told.{found_inside}
-use Rattle.bureau.proofs.print_find.Goals as goal
+use Rattle.bureau.proofs.print_found.Goals as goal
 
 pub print_written-requires-clause-length_in_bounds :
     goal.print_written-requires-clause-length_in_bounds
