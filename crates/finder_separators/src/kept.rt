@@ -8,7 +8,7 @@ ghost use Rattle.finder_separators.specs.Kept.{TextAt, KeptAt, SeparatorsAt};
 use finder_spelling::spell_words;
 use finder_unit::GoldenUnit;
 use trie::Nodes;
-use trie_filing::{find_firsts, put_words, NODES};
+use trie_filing::{NODES, find_firsts, put_words};
 
 // A place for each word.
 pub fn place_room() -> [u16; 2016]
