@@ -40,7 +40,7 @@ def statements(commit, part):
         starts = [(m.start(), m) for m in re.finditer(r"^[ \t]*(?:(?:abbrev|unfoldable) )?(?:pub )?(?:record )?([^\s:(){};,|]+) (?::|\().*", text, re.M)]
         for i, (at, m) in enumerate(starts):
             word = m.group(1)
-            if word in ("module", "use", "let", "record", "where", "rw", "elim"):
+            if word in ("module", "use", "let", "record", "where", "rw", "elim", "ap", "omega", "go", "×"):
                 continue
             said = text[at:starts[i + 1][0] if i + 1 < len(starts) else len(text)]
             if "/proofs/" in name:
@@ -49,13 +49,22 @@ def statements(commit, part):
     return found
 
 
+def apart(head):
+    """A head's signature and its clauses, one by one."""
+    return [part.strip() for part in re.split(r"(?=\b(?:requires|ensures)\b)", head)]
+
+
 def compare(title, old, new, show=lambda k: "`" + "` `".join(k) + "`"):
     changed = [k for k in sorted(old) if k in new and old[k] != new[k]]
     gone = [k for k in sorted(old) if k not in new]
     more = [k for k in sorted(new) if k not in old]
     print(f"### {title}: {len(changed)} changed, {len(gone)} gone, {len(more)} new\n")
     for k in changed:
-        print(f"{show(k)}\n\n    - {old[k]}\n    + {new[k]}\n")
+        was, now = apart(old[k]), apart(new[k])
+        lines = [f"    - {x}" for x in was if x not in now] + [f"    + {x}" for x in now if x not in was]
+        kept = len([x for x in now if x in was and x.split()[0] in ("requires", "ensures")])
+        print(f"{show(k)}" + (f"; {kept} of its clauses stand as they were" if kept else "") + "\n")
+        print("\n".join(lines) + "\n")
     for k in gone:
         print(f"{show(k)}, gone\n\n    - {old[k]}\n")
     for k in more:

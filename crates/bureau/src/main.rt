@@ -158,6 +158,7 @@ fn print_of_written<F: Fn(&[u8], &mut [u8]) -> BuiltLine>(
     print_written(rt, written, 3, &out)
 }
 
+// As the one before, with a bound: a closure that holds it would say of what it leaves only what no answer can name.
 fn print_found(rt: &(impl Env + Files + Print), bound: u8) -> io::Result<()> {
     let mut unit = large_buffer();
     let mut out = built_buffer();

@@ -24,7 +24,8 @@ pub fn open_read<R: Files>(rt: &R, name: &[u8]) -> Option<R::File> {
     fs::open(rt, text).ok()
 }
 
-// The file of that name, to be written: made where it is missing, and emptied where it is not.
+// The file of that name, to be written: made where it is missing, and emptied where it is not. One function that is passed the library's
+// call would be longer than both.
 pub fn open_overwrite<R: Files>(rt: &R, name: &[u8]) -> Option<R::File> {
     let text = str::from_utf8(name).ok()?;
     fs::create(rt, text).ok()
