@@ -3,13 +3,13 @@ ghost use Rattle.std.specs.Prelude.{◌≡◌, length};
 ghost use Rattle.rules.specs.Promises.{BuildPromise};
 ghost use Rattle.builder_copyist.specs.Ready.{Buildable};
 
-use builder_branches::Grown;
 use builder_copyist::{OVER_SIZE, build_planted};
 use builder_grower::grow_needed;
-use reader::{DossierRead, DossierShape};
+use reader::DossierShape;
 use rules::{Built, Refusal};
 use soundness::read_sound;
-use trie_filing::{node_bytes, node_links};
+use trie::Nodes;
+use trie_filing::NODES;
 
 // Over arrays with a place for each node. Where the needed words have more nodes, their bytes are over the size too.
 fn build_in(
@@ -29,8 +29,8 @@ fn build_in(
     ensures { BuildPromise bytes.now out.old result out.new }
 {
     match grow_needed(bytes, x, label, first, next, done, numbers, places) {
-        Grown::Nodes(_) => build_planted(bytes, x, label, first, next, out),
-        Grown::Full => Built::Refused(Refusal::NoRoom(OVER_SIZE)),
+        Some(_) => build_planted(bytes, x, Nodes { label, first, next }, out),
+        None => Built::Refused(Refusal::NoRoom(OVER_SIZE)),
     }
 }
 
@@ -39,12 +39,12 @@ fn build_sound(bytes: &[u8], x: DossierShape, out: &mut [u8]) -> Built
     requires { Buildable bytes.now x }
     ensures { BuildPromise bytes.now out.old result out.new }
 {
-    let mut label = node_bytes();
-    let mut first = node_links();
-    let mut next = node_links();
-    let mut done = node_bytes();
-    let mut numbers = node_links();
-    let mut places = node_links();
+    let mut label = [0; NODES];
+    let mut first = [0; NODES];
+    let mut next = [0; NODES];
+    let mut done = [0; NODES];
+    let mut numbers = [0; NODES];
+    let mut places = [0; NODES];
     build_in(
         bytes,
         x,
@@ -62,7 +62,7 @@ pub fn build(dossier: &[u8], out: &mut [u8]) -> Built
     ensures { BuildPromise dossier.now out.old result out.new }
 {
     match read_sound(dossier) {
-        DossierRead::Holds(x) => build_sound(dossier, x, out),
-        DossierRead::Refused(r) => Built::Refused(r),
+        Ok(x) => build_sound(dossier, x, out),
+        Err(r) => Built::Refused(r),
     }
 }

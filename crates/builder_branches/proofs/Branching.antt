@@ -6,27 +6,22 @@ use mathlib.Core.Path.{◌≡◌, refl, ◌∙◌, ap}
 use mathlib.Core.Logic.{inl, inr}
 use mathlib.Core.List.{List, [], ◌∷◌, ◌++◌, append-nil}
 use lib.ListN.{length, get_or, set}
+use Rattle.std.specs.Prelude.{Option, Some, None}
 use Rattle.rules.specs.Words.{Word}
 use Rattle.reader.specs.Places.{word_at}
-use Rattle.trie.specs.declared.Inserted.{Inserted}
-use Rattle.trie.specs.declared.Inserted.TheVariants as inserted
-use Rattle.trie.specs.declared.Stepped.{Stepped}
-use Rattle.trie.specs.declared.Stepped.TheVariants as stepped
 use Rattle.trie.specs.Model.{Trie, size, word_of, step_trie, step_node, add_word}
 use Rattle.trie.specs.Holds.{Holds, Counted, StepOf, InsertOf}
 use Rattle.trie.specs.Grow.{step_node_lt}
 use Rattle.trie.specs.Words.{Has, has_add_new, step_node_word}
-use Rattle.builder_branches.specs.declared.Grown.{Grown}
-use Rattle.builder_branches.specs.declared.Grown.TheVariants.{Nodes, Full}
 use Rattle.builder_branches.specs.Growing.{Separator, Behind, Grows, Done, Ready, Grew, GrewOf}
 use Rattle.builder_branches.proofs.Grows.{behind_more, behind_none, behind_next, behind_zero, behind_cases, grows_has, grows_none, grows_then, grows_wider, grows_word, done_grows, done_mark, done_whole}
 
 -- what grew from a trie that t grew into grew from t
-pub grew_after : (k : ℕ) (W : Word → Type 0) {S : Word → Type 0} {t t₁ : Trie} (label first next done : List ℕ) → Grows S t t₁ → (r : Grown)
+pub grew_after : (k : ℕ) (W : Word → Type 0) {S : Word → Type 0} {t t₁ : Trie} (label first next done : List ℕ) → Grows S t t₁ → (r : Option ℕ)
     → GrewOf k W S t₁ label first next done r → GrewOf k W S t label first next done r
-grew_after k W label first next done before (Nodes count) g =
+grew_after k W label first next done before (Some count) g =
     record { trie = g.trie; holds = g.holds; counted = g.counted; marked = g.marked; grown = grows_then before g.grown; whole = g.whole }
-grew_after k W label first next done before Full (t', grown, over) = (t', grows_then before grown, over)
+grew_after k W label first next done before None (t', grown, over) = (t', grows_then before grown, over)
 
 -- Before the separating word number e: those before it are behind the word of the node.
 pub record Putting (k : ℕ) (s places : List ℕ) (n : ℕ) (t : Trie) (node e : ℕ) (label first next : List ℕ) (count : ℕ) : Type 0 where
@@ -52,7 +47,7 @@ module _ (k : ℕ) (s places : List ℕ) (n : ℕ) (t : Trie) (node : ℕ) where
     putting_counted =
         (record { trie = p.trie; holds = p.holds; counted = p.counted }, omega (arith, p.counted, p.grown.more))
 
-    module _ (more : e < n) (label' first' next' : List ℕ) (r : Inserted)
+    module _ (more : e < n) (label' first' next' : List ℕ) (r : Option (ℕ × ℕ))
         (inserts : (t : Trie) → Holds t label first next → count ≡ size t → InsertOf t node (word_at s (get_or places e 0)) label' first' next' r) where
       abbrev w : Word
       w = word_at s (get_or places e 0)
@@ -62,7 +57,7 @@ module _ (k : ℕ) (s places : List ℕ) (n : ℕ) (t : Trie) (node : ℕ) where
           grows_word p.holds.proper node w (word_of t node ++ w) (omega (arith, p.grown.more)) (behind_none w (record { number = e; below = more; stands = refl }))
           ([], append-nil _ ∙ ap (λ (u : Word). u ++ w) (p.grown.kept node less))
 
-      pub putting_next : (at count' : ℕ) → r ≡ inserted.Put at count' → Putting k s places n t node (e + 1) label' first' next' count'
+      pub putting_next : (at count' : ℕ) → r ≡ Some (at, count') → Putting k s places n t node (e + 1) label' first' next' count'
       putting_next at count' is =
           let (end, counted, holds) = rw is at (inserts p.trie p.holds p.counted) in
           record {
@@ -79,7 +74,7 @@ module _ (k : ℕ) (s places : List ℕ) (n : ℕ) (t : Trie) (node : ℕ) where
                 ];
           }
 
-      pub putting_full : r ≡ inserted.Full → (t' : Trie) × Grows S t t' × (length label' < size t')
+      pub putting_full : r ≡ None → (t' : Trie) × Grows S t t' × (length label' < size t')
       putting_full is =
           let over = rw is at (inserts p.trie p.holds p.counted) in
           (add_word p.trie node w, grows_then p.grown grows, over)
@@ -115,14 +110,14 @@ module _ (k : ℕ) (W : Word → Type 0) (t : Trie) (node most : ℕ) (less : no
       }
 
   -- First the separating words, by which t grows as r₁ says, then all that begins with an input.
-  module _ (label₁ first₁ next₁ done₁ : List ℕ) (r₁ : Grown) (put : GrewOf k W (Behind k 0 W (word_of t node)) t label₁ first₁ next₁ done₁ r₁) where
+  module _ (label₁ first₁ next₁ done₁ : List ℕ) (r₁ : Option ℕ) (put : GrewOf k W (Behind k 0 W (word_of t node)) t label₁ first₁ next₁ done₁ r₁) where
     wider : (w : Word) → Behind k 0 W (word_of t node) w → All w
     wider w b = behind_more (omega arith) w b
 
-    pub put_full : r₁ ≡ Full → (t' : Trie) × Grows All t t' × (length label₁ < size t')
+    pub put_full : r₁ ≡ None → (t' : Trie) × Grows All t t' × (length label₁ < size t')
     put_full is = let (t', grown, over) = rw is at put in (t', grows_wider wider grown, over)
 
-    module _ (count₁ : ℕ) (is : r₁ ≡ Nodes count₁) where
+    module _ (count₁ : ℕ) (is : r₁ ≡ Some count₁) where
       after_put : Grew k W (Behind k 0 W (word_of t node)) t label₁ first₁ next₁ done₁ count₁
       after_put = rw is at put
 
@@ -131,7 +126,7 @@ module _ (k : ℕ) (W : Word → Type 0) (t : Trie) (node most : ℕ) (less : no
           let g = after_put in
           (record { trie = g.trie; holds = g.holds; counted = g.counted; marked = g.marked }, omega (arith, g.counted, g.grown.more))
 
-      module _ (label₂ first₂ next₂ done₂ : List ℕ) (r₂ : Grown)
+      module _ (label₂ first₂ next₂ done₂ : List ℕ) (r₂ : Option ℕ)
           (children : (t₁ : Trie) → Holds t₁ label₁ first₁ next₁ → count₁ ≡ size t₁ → Done k W t₁ done₁
           → ((w : Word) → Behind k 0 W (word_of t₁ node) w → Has t₁ w)
           → GrewOf k W (Behind k most W (word_of t₁ node)) t₁ label₂ first₂ next₂ done₂ r₂) where
@@ -141,12 +136,12 @@ module _ (k : ℕ) (W : Word → Type 0) (t : Trie) (node most : ℕ) (less : no
             let same : word_of g.trie node ≡ word_of t node = g.grown.kept node less in
             rw same at (children g.trie g.holds g.counted g.marked (λ w b. g.whole w (rw same at b)))
 
-        pub grow_full : r₂ ≡ Full → (t' : Trie) × Grows All t t' × (length label₂ < size t')
+        pub grow_full : r₂ ≡ None → (t' : Trie) × Grows All t t' × (length label₂ < size t')
         grow_full full =
             let (t', grown, over) = rw full at after_children in
             (t', grows_then (grows_wider wider after_put.grown) grown, over)
 
-        pub grow_end : (count₂ : ℕ) → r₂ ≡ Nodes count₂ → node < length done₂ → Grew k W All t label₂ first₂ next₂ (set done₂ node (most + 1)) count₂
+        pub grow_end : (count₂ : ℕ) → r₂ ≡ Some count₂ → node < length done₂ → Grew k W All t label₂ first₂ next₂ (set done₂ node (most + 1)) count₂
         grow_end count₂ good in' =
             let g : Grew k W All after_put.trie label₂ first₂ next₂ done₂ count₂ = rw good at after_children in
             let grown = grows_then (grows_wider wider after_put.grown) g.grown in
@@ -210,7 +205,7 @@ module _ (k : ℕ) (W : Word → Type 0) (t : Trie) (node most : ℕ) where
               ];
         }
 
-    module _ (below : a < k) (some : 0 < most) (v : Word) (is_back : W v) (label₁ first₁ next₁ : List ℕ) (r₁ : Stepped)
+    module _ (below : a < k) (some : 0 < most) (v : Word) (is_back : W v) (label₁ first₁ next₁ : List ℕ) (r₁ : Option (ℕ × ℕ))
         (steps : (t : Trie) → Holds t label first next → count ≡ size t → StepOf t node a label₁ first₁ next₁ r₁) where
       there : node < size p.trie
       there = omega (arith, p.grown.more)
@@ -222,12 +217,12 @@ module _ (k : ℕ) (W : Word → Type 0) (t : Trie) (node most : ℕ) where
           (behind_next a below some _ (behind_none v is_back))
           (v, ap (λ (u : Word). u ++ (a ∷ []) ++ v) (p.grown.kept node less))
 
-      pub step_full : r₁ ≡ stepped.Full → (t' : Trie) × Grows Every t t' × (length label₁ < size t')
+      pub step_full : r₁ ≡ None → (t' : Trie) × Grows Every t t' × (length label₁ < size t')
       step_full is =
           let over = rw is at (steps p.trie p.holds p.counted) in
           (step_trie p.trie node a, grows_then p.grown steps_grow, over)
 
-      module _ (child count₁ : ℕ) (is : r₁ ≡ stepped.To child count₁) where
+      module _ (child count₁ : ℕ) (is : r₁ ≡ Some (child, count₁)) where
         stepped_to : (child ≡ step_node p.trie node a) × (count₁ ≡ size (step_trie p.trie node a)) × Holds (step_trie p.trie node a) label₁ first₁ next₁
         stepped_to = rw is at (steps p.trie p.holds p.counted)
 
@@ -236,7 +231,7 @@ module _ (k : ℕ) (W : Word → Type 0) (t : Trie) (node most : ℕ) where
             let (at, counted, holds) = stepped_to in
             (record { trie = step_trie p.trie node a; holds = holds; counted = counted; marked = done_grows done steps_grow p.marked }, omega (arith, at, counted, step_node_lt p.trie node a))
 
-        module _ (label₂ first₂ next₂ done₂ : List ℕ) (r₂ : Grown)
+        module _ (label₂ first₂ next₂ done₂ : List ℕ) (r₂ : Option ℕ)
             (grows : (t₁ : Trie) → Holds t₁ label₁ first₁ next₁ → count₁ ≡ size t₁ → Done k W t₁ done
             → GrewOf k W (Behind k (most - 1) W (word_of t₁ child)) t₁ label₂ first₂ next₂ done₂ r₂) where
           after_child : GrewOf k W (Behind k (most - 1) W (word_of t node ++ (a ∷ []))) (step_trie p.trie node a) label₂ first₂ next₂ done₂ r₂
@@ -247,12 +242,12 @@ module _ (k : ℕ) (W : Word → Type 0) (t : Trie) (node most : ℕ) where
               in
               rw same at (grows (step_trie p.trie node a) holds counted (done_grows done steps_grow p.marked))
 
-          pub child_full : r₂ ≡ Full → (t' : Trie) × Grows Every t t' × (length label₂ < size t')
+          pub child_full : r₂ ≡ None → (t' : Trie) × Grows Every t t' × (length label₂ < size t')
           child_full full =
               let (t', grown, over) = rw full at after_child in
               (t', grows_then (grows_then p.grown steps_grow) (grows_wider (behind_next a below some) grown), over)
 
-          pub child_next : (count₂ : ℕ) → r₂ ≡ Nodes count₂ → Turning k W t node most (a + 1) label₂ first₂ next₂ done₂ count₂
+          pub child_next : (count₂ : ℕ) → r₂ ≡ Some count₂ → Turning k W t node most (a + 1) label₂ first₂ next₂ done₂ count₂
           child_next count₂ good =
               let g : Grew k W (Behind k (most - 1) W (word_of t node ++ (a ∷ []))) (step_trie p.trie node a) label₂ first₂ next₂ done₂ count₂ = rw good at after_child in
               let later = grows_then steps_grow (grows_wider (behind_next a below some) g.grown) in

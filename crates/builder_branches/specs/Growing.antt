@@ -1,5 +1,5 @@
 -- How a trie grows by words, and the marks that say what was put behind the word of a node.
-use Rattle.std.specs.Prelude.{ℕ, ◌≤◌, ◌<◌, ◌≡◌, ◌⊎◌, List, ◌++◌, length, get_or}
+use Rattle.std.specs.Prelude.{ℕ, ◌≤◌, ◌<◌, ◌≡◌, ◌⊎◌, List, ◌++◌, length, get_or, Option, Some, None}
 use Rattle.rules.specs.Lists.{◌∈◌}
 use Rattle.rules.specs.Words.{Word, Valid, Begins}
 use Rattle.reader.specs.Places.{word_at}
@@ -7,8 +7,6 @@ use Rattle.walker.specs.Walks.{Whole}
 use Rattle.trie.specs.Model.{Trie, size, word_of, Proper}
 use Rattle.trie.specs.Holds.{Holds}
 use Rattle.trie.specs.Words.{Has}
-use Rattle.builder_branches.specs.declared.Grown.{Grown}
-use Rattle.builder_branches.specs.declared.Grown.TheVariants.{Nodes, Full}
 
 -- a word that stands at one of the first n places
 pub record Separator (s places : List ℕ) (n : ℕ) (w : Word) : Type 0 where
@@ -67,11 +65,11 @@ pub record Grew (k : ℕ) (W S : Word → Type 0) (t : Trie) (label first next d
   pub whole : (w : Word) → S w → Has trie w
 
 -- what putting the words of S into t answers: the arrays are as said, or there is no room for all of them
-abbrev pub GrewOf : ℕ → (Word → Type 0) → (Word → Type 0) → Trie → List ℕ → List ℕ → List ℕ → List ℕ → Grown → Type 0
-GrewOf k W S t label first next done (Nodes count) = Grew k W S t label first next done count
-GrewOf k W S t label first next done Full = (t' : Trie) × Grows S t t' × (length label < size t')
+abbrev pub GrewOf : ℕ → (Word → Type 0) → (Word → Type 0) → Trie → List ℕ → List ℕ → List ℕ → List ℕ → Option ℕ → Type 0
+GrewOf k W S t label first next done (Some count) = Grew k W S t label first next done count
+GrewOf k W S t label first next done None = (t' : Trie) × Grows S t t' × (length label < size t')
 
 -- the same of all that is needed behind the word u, where the separating words stand at the first n places
-abbrev pub BranchOf : List ℕ → List ℕ → ℕ → ℕ → ℕ → Word → Trie → List ℕ → List ℕ → List ℕ → List ℕ → Grown → Type 0
+abbrev pub BranchOf : List ℕ → List ℕ → ℕ → ℕ → ℕ → Word → Trie → List ℕ → List ℕ → List ℕ → List ℕ → Option ℕ → Type 0
 BranchOf s places n k most u t label first next done r =
     GrewOf k (Separator s places n) (Behind k most (Separator s places n) u) t label first next done r

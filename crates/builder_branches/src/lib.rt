@@ -10,17 +10,11 @@ ghost use Rattle.trie.specs.Words.{Has};
 ghost use Rattle.builder_branches.specs.Growing.{Separator, Separators, Behind, Done, Ready, BranchOf};
 
 use rules::Input;
-use trie::{Inserted, Stepped, step};
+use trie::step;
 use trie_filing::put_word;
 
-// How many nodes the trie has; or no room for all needed words.
-#[derive(Clone, Copy)]
-pub enum Grown {
-    Nodes(usize),
-    Full,
-}
-
-// Puts the separating words in behind the word of a node, unless they are there.
+// Puts the separating words in behind the word of a node, unless they are there. The answer is how many nodes the trie has then; or
+// none, where there is no room.
 fn put_separators(
     bytes: &[u8],
     places: &[u16],
@@ -31,29 +25,26 @@ fn put_separators(
     done: &[u8],
     nodes: usize,
     node: usize,
-) -> Grown
+) -> Option<usize>
     requires separators { Separators bytes.now places.now n }
     requires counted { Counted label.old first.old next.old nodes × (node < nodes) × (node < length done.now) }
     ensures { (k : ℕ) (t : Trie) → Holds t label.old first.old next.old → nodes ≡ size t → Done k (Separator bytes.now places.now n) t done.now → BranchOf bytes.now places.now n k 0 (word_of t node) t label.new first.new next.new done.now result }
 {
     if done[node] != 0 {
-        return Grown::Nodes(nodes);
+        return Some(nodes);
     }
     let mut count = nodes;
-    let mut e = 0;
-    while e < n {
-        let put = put_word(bytes, places[e] as usize, label, first, next, count, node);
-        let Inserted::Put(_, more) = put else {
-            return Grown::Full;
-        };
+    for e in 0..n {
+        let word = places[e] as usize;
+        let (_, more) = put_word(bytes, word, label, first, next, count, node)?;
         count = more;
-        e += 1;
     }
-    Grown::Nodes(count)
+    Some(count)
 }
 
 // Grows all that is needed behind the word of a node, where middles may have `left` inputs: the separating words, and behind
-// each input the same with one input less, until none is left.
+// each input the same with one input less, until none is left. The answer is how many nodes the trie has then; or none, where there
+// is no room.
 #[cycle(grow_grow_children)]
 pub fn grow(
     bytes: &[u8],
@@ -67,27 +58,21 @@ pub fn grow(
     nodes: usize,
     node: usize,
     left: u8,
-) -> Grown
+) -> Option<usize>
     requires separators { Separators bytes.now places.now n }
     requires ready { Ready inputs (Separator bytes.now places.now n) label.old first.old next.old done.old nodes }
     requires node_lt_nodes { (node < nodes) × (left < 255) × (length done.old ≡ length label.old) }
     ensures { (t : Trie) → Holds t label.old first.old next.old → nodes ≡ size t → Done inputs (Separator bytes.now places.now n) t done.old → BranchOf bytes.now places.now n inputs left (word_of t node) t label.new first.new next.new done.new result }
 {
     if left < done[node] {
-        return Grown::Nodes(nodes);
+        return Some(nodes);
     }
-    let put = put_separators(bytes, places, n, label, first, next, done, nodes, node);
-    let Grown::Nodes(m) = put else {
-        return Grown::Full;
-    };
-    let grown = grow_children(
+    let m = put_separators(bytes, places, n, label, first, next, done, nodes, node)?;
+    let all = grow_children(
         bytes, inputs, places, n, label, first, next, done, m, node, left,
-    );
-    let Grown::Nodes(all) = grown else {
-        return Grown::Full;
-    };
+    )?;
     done[node] = left + 1;
-    Grown::Nodes(all)
+    Some(all)
 }
 
 // The part of it that begins with an input. The separating words are there.
@@ -104,23 +89,19 @@ fn grow_children(
     nodes: usize,
     node: usize,
     left: u8,
-) -> Grown
+) -> Option<usize>
     requires separators { Separators bytes.now places.now n }
     requires ready { Ready inputs (Separator bytes.now places.now n) label.old first.old next.old done.old nodes }
     requires node_lt_nodes { (node < nodes) × (left < 255) × (length done.old ≡ length label.old) }
     ensures { (t : Trie) → Holds t label.old first.old next.old → nodes ≡ size t → Done inputs (Separator bytes.now places.now n) t done.old → ((w : Word) → Behind inputs 0 (Separator bytes.now places.now n) (word_of t node) w → Has t w) → BranchOf bytes.now places.now n inputs left (word_of t node) t label.new first.new next.new done.new result }
 {
     if left == 0 {
-        return Grown::Nodes(nodes);
+        return Some(nodes);
     }
     let mut count = nodes;
-    let mut a = 0;
-    while a < inputs {
-        let stepped = step(label, first, next, count, node, Input::numbered(a));
-        let Stepped::To(child, more) = stepped else {
-            return Grown::Full;
-        };
-        let grown = grow(
+    for a in 0..inputs {
+        let (child, more) = step(label, first, next, count, node, Input::numbered(a))?;
+        count = grow(
             bytes,
             inputs,
             places,
@@ -132,12 +113,7 @@ fn grow_children(
             more,
             child,
             left - 1,
-        );
-        let Grown::Nodes(all) = grown else {
-            return Grown::Full;
-        };
-        count = all;
-        a += 1;
+        )?;
     }
-    Grown::Nodes(count)
+    Some(count)
 }

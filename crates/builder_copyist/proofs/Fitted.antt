@@ -4,6 +4,7 @@ use native.Mathlib.Omega.{arith}
 use mathlib.Core.Path.{◌≡◌, refl, sym, ap, ◌∙◌}
 use mathlib.Core.List.{List, [], ◌∷◌, ◌++◌, flat_map}
 use lib.ListN.{length, take, length-append}
+use Rattle.std.specs.Prelude.{Option, Some, None}
 use Rattle.rules.specs.Sizes.{most_test_word, most_dossier_bytes}
 use Rattle.rules.specs.Words.{Word}
 use Rattle.rules.specs.Files.{DossierData, count_bytes, word_bytes, front_bytes, dossier_bytes}
@@ -15,12 +16,7 @@ use Rattle.trie.specs.Model.{Trie, size, word_of}
 use Rattle.trie.specs.Grow.{size_pos}
 use Rattle.trie.specs.Words.{word_root}
 use Rattle.trie.specs.Holds.{Holds}
-use Rattle.trie_lister.specs.declared.Visited.{Visited}
-use Rattle.trie_lister.specs.declared.Measured.{Measured}
-use Rattle.trie_lister.specs.declared.Measured.TheVariants.{Fits, Over}
 use Rattle.trie_lister.specs.Visits.{leaves, maximal, bytes_of, WroteOf, MeasureOf, Visiting, Deep}
-use Rattle.builder_branches.specs.declared.Grown.{Grown}
-use Rattle.builder_branches.specs.declared.Grown.TheVariants.{Nodes, Full}
 use Rattle.builder_grower.specs.Grown.{GrownOf}
 use Rattle.builder_copyist.specs.Ready.{Buildable, Planted, Fitting, built_bytes}
 use Rattle.builder_copyist.specs.Suite.{listed, needed_deep, built_laid, front_size, built_size, nodes_over}
@@ -37,19 +33,19 @@ module _ {s : List ℕ} {x : DossierShape} (b : Buildable s x) where
   built_bytes_lem = rw b.lent.reads
 
   -- what is grown
-  module _ (label first next : List ℕ) (r : Grown) (grown : (d : DossierData) → read_dossier s ≡ fine d → GrownOf d label first next r) where
-    pub planted : (count : ℕ) → r ≡ Nodes count → Planted s x label first next
+  module _ (label first next : List ℕ) (r : Option ℕ) (grown : (d : DossierData) → read_dossier s ≡ fine d → GrownOf d label first next r) where
+    pub planted : (count : ℕ) → r ≡ Some count → Planted s x label first next
     planted count is =
-        let nodes : GrownOf b.lent.held label first next (Nodes count) = rw is at (grown b.lent.held b.lent.reads) in
+        let nodes : GrownOf b.lent.held label first next (Some count) = rw is at (grown b.lent.held b.lent.reads) in
         record { dossier = b; trie = nodes.0; holds = nodes.1; needs = nodes.3 }
 
-    pub full_over : r ≡ Full → most_dossier_bytes < length (built_bytes s)
+    pub full_over : r ≡ None → most_dossier_bytes < length (built_bytes s)
     full_over is =
-        let full : GrownOf b.lent.held label first next Full = rw is at (grown b.lent.held b.lent.reads) in
+        let full : GrownOf b.lent.held label first next None = rw is at (grown b.lent.held b.lent.reads) in
         rw built_bytes_lem (nodes_over b.lent.held b.lent.stands.sized b.is_sound full.1 full.2 full.3)
 
 -- what `measure` says of the trie that the arrays hold, from the root on
-abbrev pub Measures : List ℕ → List ℕ → List ℕ → DossierShape → Measured → Type 0
+abbrev pub Measures : List ℕ → List ℕ → List ℕ → DossierShape → Option (ℕ × ℕ) → Type 0
 Measures label first next x r = (t : Trie) → Holds t label first next → 0 < size t → (n : ℕ) → size t ≤ 0 + n → (u : Word) → length u ≡ 0 → MeasureOf (leaves t x.inputs n 0 u) 0 x.tests most_dossier_bytes r
 
 module _ {s : List ℕ} {x : DossierShape} {label first next : List ℕ} (p : Planted s x label first next) where
@@ -81,21 +77,21 @@ module _ {s : List ℕ} {x : DossierShape} {label first next : List ℕ} (p : Pl
   size_is = let long = ap length (built_bytes_lem p.dossier) ∙ built_size d in omega (arith, long, p.dossier.place)
 
   -- what is measured
-  module _ (r : Measured) (measured : Measures label first next x r) where
+  module _ (r : Option (ℕ × ℕ)) (measured : Measures label first next x r) where
     measure_is : MeasureOf (built_tests d) 0 x.tests most_dossier_bytes r
     measure_is = rw words_are at (measured p.trie p.holds (size_pos p.trie) (size p.trie) (omega arith) [] refl)
 
-    pub fits_counted : (words long : ℕ) → r ≡ Fits words long → (words ≡ length (built_tests d)) × (long ≡ length (built_bytes s)) × (long ≤ most_dossier_bytes)
+    pub fits_counted : (words long : ℕ) → r ≡ Some (words, long) → (words ≡ length (built_tests d)) × (long ≡ length (built_bytes s)) × (long ≤ most_dossier_bytes)
     fits_counted words long is =
-        let m : MeasureOf (built_tests d) 0 x.tests most_dossier_bytes (Fits words long) = rw is at measure_is in
+        let m : MeasureOf (built_tests d) 0 x.tests most_dossier_bytes (Some (words, long)) = rw is at measure_is in
         (omega (arith, m.0), m.1 ∙ sym size_is, m.2)
 
-    pub measured_over : r ≡ Over → most_dossier_bytes < length (built_bytes s)
+    pub measured_over : r ≡ None → most_dossier_bytes < length (built_bytes s)
     measured_over is =
-        let m : MeasureOf (built_tests d) 0 x.tests most_dossier_bytes Over = rw is at measure_is in
+        let m : MeasureOf (built_tests d) 0 x.tests most_dossier_bytes None = rw is at measure_is in
         omega (arith, m, size_is)
 
-    pub fitting : (words long room : ℕ) → r ≡ Fits words long → long ≤ room → Fitting s x label first next words room
+    pub fitting : (words long room : ℕ) → r ≡ Some (words, long) → long ≤ room → Fitting s x label first next words room
     fitting words long room is fits =
         let (count, size, small) = fits_counted words long is in
         record { planted = p; counted = count; small = omega arith; fits = omega arith }
@@ -110,7 +106,7 @@ module _ {s : List ℕ} {x : DossierShape} {label first next : List ℕ} {words 
         omega (arith, long, f.small, f.counted, words_few (built_tests p.dossier.lent.held)),
       )
 
-  pub built_written : (out out₁ out₂ : List ℕ) (r : Visited) → length out ≡ room → out₁ ≡ overwritten (take (x.tests - 2) s ++ count_bytes words) out
+  pub built_written : (out out₁ out₂ : List ℕ) (r : Option ℕ) → length out ≡ room → out₁ ≡ overwritten (take (x.tests - 2) s ++ count_bytes words) out
       → ((t : Trie) → Holds t label first next → WroteOf (bytes_of (maximal t x.inputs)) out₁ x.tests out₂ r) → out₂ ≡ overwritten (built_bytes s) out
   built_written out out₁ out₂ r room_is first_is wrote =
       let p = f.planted in

@@ -5,10 +5,9 @@ use mathlib.Core.Path.{◌≡◌, sym, ap, ◌∙◌}
 use mathlib.Core.List.{List, [], ◌∷◌, ◌++◌, append_assoc}
 use lib.ListN.{length, get_or, set, take, drop, length-append, length-drop}
 use lib.Seq.{paste, drop-cons, drop-drop, set_at, take_at, drop_at, length-take-le}
+use Rattle.std.specs.Prelude.{Option, Some, None}
 use Rattle.rules.specs.Files.{count_bytes}
 use Rattle.rules.specs.Operations.{overwritten}
-use Rattle.trie_lister.specs.declared.Visited.{Visited}
-use Rattle.trie_lister.specs.declared.Visited.TheVariants.{Done, Full}
 use Rattle.trie_lister.specs.Visits.{WroteOf, wrote_whole}
 
 -- one byte more
@@ -34,12 +33,12 @@ front_written s out out₁ n words inside fits first out₂ second =
     (high ∙ ap (λ (w : List ℕ). overwritten w out) (append_assoc (take n s) (words % 256 ∷ []) (words / 256 ∷ [])))
 
 -- bytes behind what was written
-pub rest_written : (w bytes out out₁ out₂ : List ℕ) (at : ℕ) (r : Visited) → at ≡ length w → at + length bytes ≤ length out → out₁ ≡ overwritten w out → WroteOf bytes out₁ at out₂ r
+pub rest_written : (w bytes out out₁ out₂ : List ℕ) (at : ℕ) (r : Option ℕ) → at ≡ length w → at + length bytes ≤ length out → out₁ ≡ overwritten w out → WroteOf bytes out₁ at out₂ r
     → out₂ ≡ overwritten (w ++ bytes) out
-rest_written w bytes out out₁ out₂ at Full e fits first h =
+rest_written w bytes out out₁ out₂ at None e fits first h =
     let long : length out₁ ≡ length w + (length out - length w) = ap length first ∙ rw (length-append, length-drop) in
     absurd (omega arith)
-rest_written w bytes out out₁ out₂ at (Done p) e fits first h =
+rest_written w bytes out out₁ out₂ at (Some p) e fits first h =
     let before : take at out₁ ≡ w = rw first (take_at w (drop (length w) out) at (sym e)) in
     let behind : drop p out₁ ≡ drop (length (w ++ bytes)) out =
     rw (h.0, first, ← (drop-drop (length bytes) at (overwritten w out)), drop_at w (drop (length w) out) at (sym e), drop-drop, length-append) in

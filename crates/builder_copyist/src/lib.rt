@@ -7,7 +7,8 @@ ghost use Rattle.builder_copyist.specs.Ready.{Planted};
 use crate::write::write_built;
 use reader::DossierShape;
 use rules::{Built, MOST_DOSSIER_BYTES, Refusal};
-use trie_lister::{Measured, measure};
+use trie::Nodes;
+use trie_lister::measure;
 
 mod write;
 
@@ -15,35 +16,16 @@ mod write;
 pub const OVER_SIZE: usize = 65536;
 
 // Over a trie of the needed words. The words are measured first, so that nothing is written unless all of it fits.
-pub fn build_planted(
-    bytes: &[u8],
-    x: DossierShape,
-    label: &[u8],
-    first: &[u16],
-    next: &[u16],
-    out: &mut [u8],
-) -> Built
-    requires { Planted bytes.now x label.now first.now next.now }
+pub fn build_planted(bytes: &[u8], x: DossierShape, nodes: Nodes, out: &mut [u8]) -> Built
+    requires { Planted bytes.now x nodes.label.now nodes.first.now nodes.next.now }
     ensures { BuildPromise bytes.now out.old result out.new }
 {
-    match measure(
-        label,
-        first,
-        next,
-        x.inputs,
-        0,
-        0,
-        MOST_DOSSIER_BYTES,
-        0,
-        x.tests,
-    ) {
-        Measured::Fits(words, size) => {
-            if out.len() < size {
-                return Built::Refused(Refusal::NoRoom(size));
-            }
-            write_built(bytes, x, label, first, next, words, out);
-            Built::Written(size)
-        }
-        Measured::Over => Built::Refused(Refusal::NoRoom(OVER_SIZE)),
+    let Some((words, size)) = measure(nodes, x.inputs, 0, 0, MOST_DOSSIER_BYTES, 0, x.tests) else {
+        return Built::Refused(Refusal::NoRoom(OVER_SIZE));
+    };
+    if out.len() < size {
+        return Built::Refused(Refusal::NoRoom(size));
     }
+    write_built(bytes, x, nodes, words, out);
+    Built::Written(size)
 }

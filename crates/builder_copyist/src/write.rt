@@ -6,14 +6,8 @@ ghost use Rattle.builder_copyist.specs.Ready.{Fitting, built_bytes};
 
 use reader::DossierShape;
 use texts::copy;
+use trie::Nodes;
 use trie_lister::list;
-
-// The inputs of the word at hand, as many as a length byte can say.
-fn word_room() -> [u8; 255]
-    ensures { 255 ≡ length result }
-{
-    [0; 255]
-}
 
 // A count of words to out at the place at, low byte first.
 fn write_count(out: &mut [u8], at: usize, words: usize)
@@ -33,21 +27,13 @@ fn write_front(bytes: &[u8], front: usize, words: usize, out: &mut [u8])
     write_count(out, front, words);
 }
 
-// The whole dossier, with the maximal words of the trie for its tests.
-pub fn write_built(
-    bytes: &[u8],
-    x: DossierShape,
-    label: &[u8],
-    first: &[u16],
-    next: &[u16],
-    words: usize,
-    out: &mut [u8],
-)
-    requires { Fitting bytes.now x label.now first.now next.now words (length out.old) }
+// The whole dossier, with the maximal words of the trie for its tests. A word has no more inputs than a length byte can say.
+pub fn write_built(bytes: &[u8], x: DossierShape, nodes: Nodes, words: usize, out: &mut [u8])
+    requires { Fitting bytes.now x nodes.label.now nodes.first.now nodes.next.now words (length out.old) }
     ensures { out.new ≡ overwritten (built_bytes bytes.now) out.old }
 {
     let tests = x.tests;
-    let mut path = word_room();
+    let mut path = [0; 255];
     write_front(bytes, tests - 2, words, out);
-    list(label, first, next, x.inputs, &mut path, out, tests);
+    list(nodes, x.inputs, &mut path, out, tests);
 }

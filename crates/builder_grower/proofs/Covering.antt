@@ -1,11 +1,12 @@
 -- Laws of the cover words, and that what is behind them are the needed words.
-use Prim.Native.Nat.{ℕ, suc, ◌+◌, ◌-◌, ◌≤◌, ◌<◌}
+use Prim.Native.Nat.{ℕ, suc, ◌-◌, ◌≤◌, ◌<◌}
 use native.Mathlib.Omega.{arith}
 use mathlib.Core.Path.{◌≡◌, refl, sym, ◌∙◌, ap}
 use mathlib.Core.Logic.{◌⊎◌, inl, inr}
 use mathlib.Core.List.Memᴰ
 use mathlib.Core.List.{List, [], ◌++◌}
-use lib.ListN.{length, get_or}
+use lib.ListN.{length}
+use Rattle.std.specs.Prelude.{Option, Some, None}
 use Rattle.rules.specs.Lists.{◌∈◌}
 use Rattle.rules.specs.Sizes.{bound_of}
 use Rattle.rules.specs.Words.{Word}
@@ -14,12 +15,10 @@ use Rattle.rules.specs.Operations.{fine, read_dossier}
 use Rattle.rules.specs.Needed.{IsNeeded}
 use Rattle.theory.specs.Outcomes.{fine_injective}
 use Rattle.reader.specs.declared.DossierShape.{DossierShape}
-use Rattle.reader.specs.Places.{word_at, words_at, WordsAt}
+use Rattle.reader.specs.Places.{word_at, after_word, words_at, WordsAt}
 use Rattle.reader.specs.Turns.{word_turn, words_end}
 use Rattle.reader.specs.Standing.{DossierStands}
 use Rattle.soundness.specs.Lent.{Lent}
-use Rattle.trie.specs.declared.Inserted.{Inserted}
-use Rattle.trie.specs.declared.Inserted.TheVariants as inserted
 use Rattle.trie.specs.Model.{Trie, root, size, word_of, Proper, add_word, end_of}
 use Rattle.trie.specs.Holds.{Holds, InsertOf}
 use Rattle.trie.specs.Grow.{size_pos}
@@ -27,8 +26,6 @@ use Rattle.trie.specs.Words.{Has, word_root, end_word}
 use Rattle.trie.specs.Values.{marks_of, Noted}
 use Rattle.trie_filing.specs.Distinct.{FirstPlaces}
 use Rattle.trie_filing.proofs.Once.{firsts_few, first_place, first_in, first_there}
-use Rattle.builder_branches.specs.declared.Grown.{Grown}
-use Rattle.builder_branches.specs.declared.Grown.TheVariants.{Nodes, Full}
 use Rattle.builder_grower.specs.Grown.{Within, Needs}
 use Rattle.builder_branches.specs.Growing.{Separator, Separators, Listed, Behind, Grows, Done, Ready, Grew, GrewOf}
 use Rattle.builder_branches.proofs.Grows.{behind_none, grows_has, grows_none, grows_then, grows_wider, grows_word, done_start, done_grows}
@@ -36,7 +33,7 @@ use Rattle.builder_branches.proofs.Branching.{grew_after}
 
 -- One cover word: it is put in, and then all behind it.
 module _ (k : ℕ) (W : Word → Type 0) (most : ℕ) (w v : Word) (is_back : W v) (t : Trie) (label first next done : List ℕ) (count : ℕ)
-    (holds : Holds t label first next) (counted : count ≡ size t) (marked : Done k W t done) (label₁ first₁ next₁ : List ℕ) (r₁ : Inserted)
+    (holds : Holds t label first next) (counted : count ≡ size t) (marked : Done k W t done) (label₁ first₁ next₁ : List ℕ) (r₁ : Option (ℕ × ℕ))
     (inserts : (t : Trie) → Holds t label first next → count ≡ size t → InsertOf t 0 w label₁ first₁ next₁ r₁) where
   abbrev t₁ : Trie
   t₁ = add_word t 0 w
@@ -45,10 +42,10 @@ module _ (k : ℕ) (W : Word → Type 0) (most : ℕ) (w v : Word) (is_back : W 
   put_grows =
       grows_word holds.proper 0 w (w ++ v) (size_pos t) (behind_none v is_back) (v, ap (λ (u : Word). u ++ w ++ v) (word_root t))
 
-  pub cover_full : r₁ ≡ inserted.Full → (t' : Trie) × Grows (Behind k most W w) t t' × (length label₁ < size t')
+  pub cover_full : r₁ ≡ None → (t' : Trie) × Grows (Behind k most W w) t t' × (length label₁ < size t')
   cover_full is = let over = rw is at (inserts t holds counted) in (t₁, put_grows, over)
 
-  module _ (node count₁ : ℕ) (is : r₁ ≡ inserted.Put node count₁) where
+  module _ (node count₁ : ℕ) (is : r₁ ≡ Some (node, count₁)) where
     cover_put : (node ≡ end_of t 0 w) × (count₁ ≡ size t₁) × Holds t₁ label₁ first₁ next₁
     cover_put = rw is at (inserts t holds counted)
 
@@ -59,7 +56,7 @@ module _ (k : ℕ) (W : Word → Type 0) (most : ℕ) (w v : Word) (is_back : W 
           omega (arith, at, counted₁, (end_word holds.proper 0 w (size_pos t)).0),
         )
 
-    pub cover_grows : (label₂ first₂ next₂ done₂ : List ℕ) (r₂ : Grown)
+    pub cover_grows : (label₂ first₂ next₂ done₂ : List ℕ) (r₂ : Option ℕ)
         → ((t : Trie) → Holds t label₁ first₁ next₁ → count₁ ≡ size t → Done k W t done → GrewOf k W (Behind k most W (word_of t node)) t label₂ first₂ next₂ done₂ r₂)
         → GrewOf k W (Behind k most W w) t label₂ first₂ next₂ done₂ r₂
     cover_grows label₂ first₂ next₂ done₂ r₂ grows =
@@ -102,7 +99,7 @@ module _ (k most : ℕ) (W : Word → Type 0) (all : List Word) where
   covering_ready f = record { trie = f.trie; holds = f.holds; counted = f.counted; marked = f.marked }
 
   module _ (s : List ℕ) (p c : ℕ) (some : 0 < c) (stand : WordsAt s p k c) (label first next done : List ℕ) (count : ℕ)
-      (f : Covering k most W all (words_at s p c) label first next done count) (label₁ first₁ next₁ done₁ : List ℕ) (r : Grown)
+      (f : Covering k most W all (words_at s p c) label first next done count) (label₁ first₁ next₁ done₁ : List ℕ) (r : Option ℕ)
       (grows : (t : Trie) → Holds t label first next → count ≡ size t → Done k W t done → GrewOf k W (Behind k most W (word_at s p)) t label₁ first₁ next₁ done₁ r) where
     here : word_at s p ∈ words_at s p c
     here = rw (word_turn s p k c some stand).words (Memᴰ.head refl)
@@ -110,17 +107,17 @@ module _ (k most : ℕ) (W : Word → Type 0) (all : List Word) where
     wanted : (w : Word) → Behind k most W (word_at s p) w → Wanted k most W all w
     wanted w b = record { cover = word_at s p; covering = f.inside _ here; behind = b }
 
-    pub covering_full : r ≡ Full → (t' : Trie) × Grows (Wanted k most W all) root t' × (length label₁ < size t')
+    pub covering_full : r ≡ None → (t' : Trie) × Grows (Wanted k most W all) root t' × (length label₁ < size t')
     covering_full is =
         let (t', grown, over) = rw is at (grows f.trie f.holds f.counted f.marked) in
         (t', grows_then f.grown (grows_wider wanted grown), over)
 
-    pub covering_next : (n count₁ : ℕ) → n ≡ get_or s p 0 → r ≡ Nodes count₁ → Covering k most W all (words_at s (p + 1 + n) (c - 1)) label₁ first₁ next₁ done₁ count₁
-    covering_next n count₁ place is =
+    pub covering_next : (count₁ : ℕ) → r ≡ Some count₁ → Covering k most W all (words_at s (after_word s p) (c - 1)) label₁ first₁ next₁ done₁ count₁
+    covering_next count₁ is =
         let g : Grew k W (Behind k most W (word_at s p)) f.trie label₁ first₁ next₁ done₁ count₁ = rw is at (grows f.trie f.holds f.counted f.marked) in
         let turn = (word_turn s p k c some stand).words in
         let grown = grows_wider wanted g.grown in
-        rw place (record {
+        record {
           trie = g.trie;
           holds = g.holds;
           counted = g.counted;
@@ -136,7 +133,7 @@ module _ (k most : ℕ) (W : Word → Type 0) (all : List Word) where
                     ]
                 | inr there ↦ inr (λ w b. grows_has grown w (there w b))
               ];
-        })
+        }
 
 -- The needed words of the dossier d, whose separating words stand at the first n places.
 module _ (s : List ℕ) (x : DossierShape) (lent : Lent s x) (places : List ℕ) (n : ℕ) (listed : Listed s places n (words_at s x.separating x.separators))

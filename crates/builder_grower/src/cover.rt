@@ -10,12 +10,12 @@ ghost use Rattle.soundness.specs.Lent.{Lent};
 ghost use Rattle.builder_grower.specs.Grown.{GrownOf};
 ghost use Rattle.builder_branches.specs.Growing.{Separator, Separators, Listed, Done, Ready, BranchOf};
 
-use builder_branches::{Grown, grow};
+use builder_branches::grow;
 use middles::longest_middle;
 use reader::DossierShape;
-use trie::{Inserted, clear_marks, start};
+use trie::{Nodes, clear_marks, start};
 use trie_filing::{find_firsts, put_word, put_words};
-use walker::word_length;
+use walker::word_end;
 
 // Grows all that is needed behind the cover word at a place, where middles may have `left` inputs.
 fn grow_cover(
@@ -30,16 +30,13 @@ fn grow_cover(
     done: &mut [u8],
     nodes: usize,
     left: u8,
-) -> Grown
+) -> Option<usize>
     requires whole { Whole bytes.now word × Separators bytes.now places.now n }
     requires ready { Ready inputs (Separator bytes.now places.now n) label.old first.old next.old done.old nodes }
     requires left_bound { (left < 255) × (length done.old ≡ length label.old) }
     ensures { (t : Trie) → Holds t label.old first.old next.old → nodes ≡ size t → Done inputs (Separator bytes.now places.now n) t done.old → BranchOf bytes.now places.now n inputs left (word_at bytes.now word) t label.new first.new next.new done.new result }
 {
-    let put = put_word(bytes, word, label, first, next, nodes, 0);
-    let Inserted::Put(node, m) = put else {
-        return Grown::Full;
-    };
+    let (node, m) = put_word(bytes, word, label, first, next, nodes, 0)?;
     grow(
         bytes, inputs, places, n, label, first, next, done, m, node, left,
     )
@@ -55,7 +52,7 @@ fn grow_covers(
     first: &mut [u16],
     next: &mut [u16],
     done: &mut [u8],
-) -> Grown
+) -> Option<usize>
     requires lent { (Lent bytes.now x) × (0 < n) × Listed bytes.now places.now n (words_at bytes.now x.separating x.separators) }
     requires label_len { (length label.old ≡ 65536) × (length first.old ≡ 65536) × (length next.old ≡ 65536) × (length done.old ≡ 65536) }
     ensures { (d : DossierData) → read_dossier bytes.now ≡ fine d → GrownOf d label.new first.new next.new result }
@@ -64,23 +61,18 @@ fn grow_covers(
     let left = longest_middle(x);
     clear_marks(done);
     let mut nodes = start(label, first, next);
-    let mut rest = x.covers;
     let mut word = x.cover;
-    while 0 < rest {
-        let grown = grow_cover(
+    for _ in 0..x.covers {
+        nodes = grow_cover(
             bytes, word, inputs, places, n, label, first, next, done, nodes, left,
-        );
-        let Grown::Nodes(all) = grown else {
-            return Grown::Full;
-        };
-        nodes = all;
-        word = word + 1 + word_length(bytes, word);
-        rest -= 1;
+        )?;
+        word = word_end(bytes, word);
     }
-    Grown::Nodes(nodes)
+    Some(nodes)
 }
 
-// Grows all needed words. The separating words go through the trie first, to find those that differ.
+// Grows all needed words. The separating words go through the trie first, to find those that differ. The answer is how many nodes the
+// trie has then; or none, where there is no room.
 pub fn grow_needed(
     bytes: &[u8],
     x: DossierShape,
@@ -90,7 +82,7 @@ pub fn grow_needed(
     done: &mut [u8],
     numbers: &mut [u16],
     places: &mut [u16],
-) -> Grown
+) -> Option<usize>
     requires lent { Lent bytes.now x }
     requires label_len { (length label.old ≡ 65536) × (length first.old ≡ 65536) × (length next.old ≡ 65536) }
     requires done_len { (length done.old ≡ 65536) × (length numbers.old ≡ 65536) × (length places.old ≡ 65536) }
@@ -101,10 +93,17 @@ pub fn grow_needed(
     let separators = x.separators;
     put_words(bytes, from, inputs, separators, label, first, next);
     let n = find_firsts(
-        bytes, from, inputs, separators, label, first, next, done, numbers, places,
+        bytes,
+        from,
+        inputs,
+        separators,
+        Nodes { label, first, next },
+        done,
+        numbers,
+        places,
     );
     if n == 0 {
-        return Grown::Nodes(start(label, first, next));
+        return Some(start(label, first, next));
     }
     grow_covers(bytes, x, places, n, label, first, next, done)
 }

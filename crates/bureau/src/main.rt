@@ -5,8 +5,8 @@
 
 ghost use Rattle.std.specs.Prelude.{◌≡◌, [], ◌∷◌, ◌≤◌, length};
 ghost use Rattle.files.specs.Fronts.{IsPrefixLen};
-ghost use Rattle.line.specs.Lines.{line_room};
 ghost use Rattle.bureau.specs.Bounds.{bound_from, bound_given};
+ghost use Rattle.bureau.specs.Printable.{Printable};
 
 use bureau_lines::{
     BuiltLine, build_line, check_line, compare_line, cost_line, find_line, import_line, trial_line,
@@ -19,14 +19,6 @@ use std::env::FillError;
 use std::io;
 use std::io::Write;
 use std::rt::{Env, Files};
-use texts::same_text;
-
-// A bound, as far as the digits that were given make one.
-#[derive(Clone, Copy)]
-enum Given {
-    Bound(u8),
-    NoBound,
-}
 
 // One byte more than a sheet may have.
 const SHEET_ROOM: usize = 131071;
@@ -51,14 +43,12 @@ fn word_buffer() -> [u8; 4096]
     [0; 4096]
 }
 
-// Puts an argument at the start of buf, and returns its length: 0 where it is missing or longer than buf.
+// Puts an argument at the start of buf, and returns its length. One that is missing or longer than buf counts as an empty one, which names no
+// file and no operation and makes no bound.
 fn put_argument(rt: &impl Env, argument: usize, buf: &mut [u8]) -> usize
     ensures { IsPrefixLen result buf.new }
 {
-    match rt.arg(argument, buf) {
-        Ok(n) => n,
-        Err(_) => 0,
-    }
+    rt.arg(argument, buf).unwrap_or(0)
 }
 
 fn has_argument(rt: &impl Env, argument: usize) -> bool {
@@ -103,47 +93,37 @@ fn save(rt: &(impl Env + Files), argument: usize, bytes: &[u8]) -> bool {
 }
 
 fn print(rt: &impl Print, line: Line) -> io::Result<()>
-    requires { (line.length ≤ line_room) × (length line.bytes ≡ line_room) }
+    requires { Printable line }
 {
-    let bytes = line.bytes;
-    let n = line.length;
-    rt.write_all(&bytes[..n])
+    rt.write_all(&line.bytes[..line.length])
 }
 
-fn print_check(rt: &(impl Env + Files + Print)) -> io::Result<()> {
+// The line of an operation on a dossier.
+fn print_of_dossier<F: Fn(&[u8]) -> Line>(
+    rt: &(impl Env + Files + Print),
+    line_of: F,
+) -> io::Result<()>
+    requires callable { F.IsAlwaysCallable line_of }
+    requires fits { (dossier : _) (line : Line) → F.post line_of dossier line → Printable line }
+{
     let mut dossier = large_buffer();
     let d = load(rt, 2, &mut dossier);
-    print(rt, check_line(&dossier[..d]))
+    print(rt, line_of(&dossier[..d]))
 }
 
-fn print_cost(rt: &(impl Env + Files + Print)) -> io::Result<()> {
+// The line of an operation on a dossier and another file, for which there is room.
+fn print_of_pair<F: Fn(&[u8], &[u8]) -> Line>(
+    rt: &(impl Env + Files + Print),
+    room: &mut [u8],
+    line_of: F,
+) -> io::Result<()>
+    requires callable { F.IsAlwaysCallable line_of }
+    requires fits { (dossier : _) (other : _) (line : Line) → F.post line_of dossier other line → Printable line }
+{
     let mut dossier = large_buffer();
     let d = load(rt, 2, &mut dossier);
-    print(rt, cost_line(&dossier[..d]))
-}
-
-fn print_run(rt: &(impl Env + Files + Print)) -> io::Result<()> {
-    let mut dossier = large_buffer();
-    let mut unit = large_buffer();
-    let d = load(rt, 2, &mut dossier);
-    let u = load(rt, 3, &mut unit);
-    print(rt, trial_line(&dossier[..d], &unit[..u]))
-}
-
-fn print_compare(rt: &(impl Env + Files + Print)) -> io::Result<()> {
-    let mut dossier = large_buffer();
-    let mut unit = large_buffer();
-    let d = load(rt, 2, &mut dossier);
-    let u = load(rt, 3, &mut unit);
-    print(rt, compare_line(&dossier[..d], &unit[..u]))
-}
-
-fn print_judge(rt: &(impl Env + Files + Print)) -> io::Result<()> {
-    let mut dossier = large_buffer();
-    let mut sheet = sheet_buffer();
-    let d = load(rt, 2, &mut dossier);
-    let s = load(rt, 3, &mut sheet);
-    print(rt, judge_line(&dossier[..d], &sheet[..s]))
+    let n = load(rt, 3, room);
+    print(rt, line_of(&dossier[..d], &room[..n]))
 }
 
 // A file is made only where there is a dossier or a unit to put there, and the line is printed once the file has it.
@@ -154,27 +134,32 @@ fn print_written(
     out: &[u8],
 ) -> io::Result<()>
     requires length_in_bounds { written.length ≤ length out.now }
-    requires length_le_line_room { (written.line.length ≤ line_room) × (length written.line.bytes ≡ line_room) }
+    requires printable { Printable written.line }
 {
     let n = written.length;
-    if 0 < n {
-        if !save(rt, argument, &out[..n]) {
-            return rt.write_all(b"UNWRITTEN\n");
-        }
+    if 0 < n && !save(rt, argument, &out[..n]) {
+        return rt.write_all(b"UNWRITTEN\n");
     }
-    let line = written.line;
-    print(rt, line)
+    print(rt, written.line)
 }
 
-fn print_build(rt: &(impl Env + Files + Print)) -> io::Result<()> {
-    let mut dossier = large_buffer();
+// The line of an operation that makes a dossier or a unit of one file.
+fn print_of_written<F: Fn(&[u8], &mut [u8]) -> BuiltLine>(
+    rt: &(impl Env + Files + Print),
+    write: F,
+) -> io::Result<()>
+    requires callable { F.IsAlwaysCallable write }
+    requires fits { (file : _) (out : _) (written : BuiltLine) (left : _) → F.post write file out written left → (written.length ≤ length left.now) × Printable written.line }
+{
+    let mut file = large_buffer();
     let mut out = built_buffer();
-    let d = load(rt, 2, &mut dossier);
-    let built = build_line(&dossier[..d], &mut out);
-    print_written(rt, built, 3, &out)
+    let f = load(rt, 2, &mut file);
+    let written = write(&file[..f], &mut out);
+    print_written(rt, written, 3, &out)
 }
 
-fn print_find(rt: &(impl Env + Files + Print), bound: u8) -> io::Result<()> {
+// As the one before, with a bound: a closure that holds it would say of what it leaves only what no answer can name.
+fn print_found(rt: &(impl Env + Files + Print), bound: u8) -> io::Result<()> {
     let mut unit = large_buffer();
     let mut out = built_buffer();
     let u = load(rt, 2, &mut unit);
@@ -182,52 +167,28 @@ fn print_find(rt: &(impl Env + Files + Print), bound: u8) -> io::Result<()> {
     print_written(rt, found, 4, &out)
 }
 
-fn print_import(rt: &(impl Env + Files + Print)) -> io::Result<()> {
-    let mut text = large_buffer();
-    let mut out = built_buffer();
-    let t = load(rt, 2, &mut text);
-    let imported = import_line(&text[..t], &mut out);
-    print_written(rt, imported, 3, &out)
-}
-
 // The bound that a number becomes with one more digit behind it.
-fn with_digit(number: u8, byte: u8) -> Given
+fn with_digit(number: u8, byte: u8) -> Option<u8>
     ensures { result ≡ bound_from number (byte ∷ []) }
 {
-    if byte < b'0' {
-        return Given::NoBound;
+    if !byte.is_ascii_digit() {
+        return None;
     }
-    if b'9' < byte {
-        return Given::NoBound;
-    }
-    let next = 10 * (number as usize) + ((byte - b'0') as usize);
-    if 255 < next {
-        return Given::NoBound;
-    }
-    Given::Bound(next as u8)
+    number.checked_mul(10)?.checked_add(byte - b'0')
 }
 
 // Nothing but digits makes a bound, and no digits make none.
-fn bound_given(digits: &[u8]) -> Given
+fn bound_given(digits: &[u8]) -> Option<u8>
     ensures { result ≡ bound_given digits.now }
 {
-    if digits.len() == 0 {
-        return Given::NoBound;
+    if digits.is_empty() {
+        return None;
     }
     let mut number = 0;
-    let mut i = 0;
-    while i < digits.len() {
-        match with_digit(number, digits[i]) {
-            Given::Bound(next) => {
-                number = next;
-            }
-            Given::NoBound => {
-                return Given::NoBound;
-            }
-        }
-        i += 1;
+    for &byte in digits {
+        number = with_digit(number, byte)?;
     }
-    Given::Bound(number)
+    Some(number)
 }
 
 fn print_usage(rt: &impl Print) -> io::Result<()> {
@@ -238,42 +199,32 @@ fn print_usage(rt: &impl Print) -> io::Result<()> {
 
 // An operation on one file.
 fn print_of_one(rt: &(impl Env + Files + Print), operation: &[u8]) -> io::Result<()> {
-    if same_text(operation, b"check") {
-        print_check(rt)
-    } else if same_text(operation, b"cost") {
-        print_cost(rt)
-    } else {
-        print_usage(rt)
+    match operation {
+        b"check" => print_of_dossier(rt, check_line),
+        b"cost" => print_of_dossier(rt, cost_line),
+        _ => print_usage(rt),
     }
 }
 
 // An operation on two files.
 fn print_of_two(rt: &(impl Env + Files + Print), operation: &[u8]) -> io::Result<()> {
-    if same_text(operation, b"build") {
-        print_build(rt)
-    } else if same_text(operation, b"run") {
-        print_run(rt)
-    } else if same_text(operation, b"compare") {
-        print_compare(rt)
-    } else if same_text(operation, b"judge") {
-        print_judge(rt)
-    } else if same_text(operation, b"import") {
-        print_import(rt)
-    } else {
-        print_usage(rt)
+    match operation {
+        b"build" => print_of_written(rt, build_line),
+        b"run" => print_of_pair(rt, &mut large_buffer(), trial_line),
+        b"compare" => print_of_pair(rt, &mut large_buffer(), compare_line),
+        b"judge" => print_of_pair(rt, &mut sheet_buffer(), judge_line),
+        b"import" => print_of_written(rt, import_line),
+        _ => print_usage(rt),
     }
 }
 
 // An operation on two files, with a number between their names.
 fn print_of_three(rt: &(impl Env + Files + Print), operation: &[u8]) -> io::Result<()> {
-    if !same_text(operation, b"find") {
-        return print_usage(rt);
-    }
     let mut digits = word_buffer();
     let n = put_argument(rt, 3, &mut digits);
-    match bound_given(&digits[..n]) {
-        Given::Bound(bound) => print_find(rt, bound),
-        Given::NoBound => print_usage(rt),
+    match (operation, bound_given(&digits[..n])) {
+        (b"find", Some(bound)) => print_found(rt, bound),
+        _ => print_usage(rt),
     }
 }
 
@@ -281,14 +232,10 @@ fn print_of_three(rt: &(impl Env + Files + Print), operation: &[u8]) -> io::Resu
 fn main(rt: HostRuntime) -> io::Result<()> {
     let mut operation = word_buffer();
     let n = put_argument(&rt, 1, &mut operation);
-    let words = word_count(&rt);
-    if words == 3 {
-        print_of_one(&rt, &operation[..n])
-    } else if words == 4 {
-        print_of_two(&rt, &operation[..n])
-    } else if words == 5 {
-        print_of_three(&rt, &operation[..n])
-    } else {
-        print_usage(&rt)
+    match word_count(&rt) {
+        3 => print_of_one(&rt, &operation[..n]),
+        4 => print_of_two(&rt, &operation[..n]),
+        5 => print_of_three(&rt, &operation[..n]),
+        _ => print_usage(&rt),
     }
 }

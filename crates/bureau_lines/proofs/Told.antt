@@ -1,7 +1,6 @@
 -- Laws of the lines: from an answer and its promise to what its line says.
 use Prim.Native.Nat.{ℕ, ◌-◌, ◌≤◌}
 use native.Mathlib.Omega.{arith}
-use native.Mathlib.Nat.{sub-zero}
 use mathlib.Core.Path.{◌≡◌, refl, sym, ◌∙◌, ap, subst}
 use mathlib.Core.Logic.{◌≢◌}
 use mathlib.Core.List.{List, [], ◌∷◌}
@@ -97,7 +96,7 @@ module _ (s t out left : List ℕ) (r : Compared) (promise : ComparePromise s t 
     pub word : Word
     pub found : compare s t telling_room ≡ fine (some word)
     pub long : n ≡ length word
-    pub written : take (n - 0) left ≡ word
+    pub written : take n left ≡ word
     pub inside : n ≤ length left
     pub short : n ≤ 127
     pub valid : Valid 16 word
@@ -116,16 +115,16 @@ module _ (s t out left : List ℕ) (r : Compared) (promise : ComparePromise s t 
             word = w;
             found = e;
             long = long;
-            written = rw (sub-zero n, wrote, long) (take_at w (drop (length w) telling_room) (length w) refl);
+            written = rw (wrote, long) (take_at w (drop (length w) telling_room) (length w) refl);
             inside = rw (wrote, length-append) (omega (arith, long));
             short = omega (arith, long, fits);
             valid = valid_wider d.inputs 16 w (dossier_sized s d c.reads).golden.few_inputs first.valid;
           }
 
-  pub telling_spelled : (n : ℕ) → Telling n → (length (take (n - 0) left) ≤ 200) × Valid 16 (take (n - 0) left)
+  pub telling_spelled : (n : ℕ) → Telling n → (length (take n left) ≤ 200) × Valid 16 (take n left)
   telling_spelled n w = rw w.written (omega (arith, w.long, w.short), w.valid)
 
-  pub differs_told : (n : ℕ) (w : Telling n) → line (text "DIFFERS" ∷ spelled (take (n - 0) left) ∷ []) ≡ compare_line s t
+  pub differs_told : (n : ℕ) (w : Telling n) → line (text "DIFFERS" ∷ spelled (take n left) ∷ []) ≡ compare_line s t
   unfolding compare_line
   differs_told n w = rw (w.found, w.written)
 

@@ -1,4 +1,5 @@
-// Lines of a fixed word and the values behind it.
+// Lines of a fixed word and the values behind it. The four differ in what they put behind the word. One function that is passed the writer of
+// that would need a contract for what a writer leaves in the bytes it is lent, and would say less plainly what each line has.
 ghost use Rattle.std.specs.Prelude.{[], ◌∷◌, ◌≤◌, length};
 ghost use Rattle.rules.specs.Words.{Valid};
 ghost use Rattle.rules.specs.Line.{decimal, line};

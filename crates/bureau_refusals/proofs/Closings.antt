@@ -1,8 +1,8 @@
 -- Laws of the values of a refusal as words of a line.
-use Prim.Native.Nat.{ℕ, zero, suc, ◌+◌, ◌-◌, ◌≤◌, ◌<◌}
+use Prim.Native.Nat.{ℕ, zero, suc, ◌≤◌, ◌<◌, min}
+use native.Mathlib.Decide.{dec_le}
 use native.Mathlib.Omega.{arith}
-use native.Mathlib.Nat.{sub-zero}
-use mathlib.Core.Path.{◌≡◌, refl, sym, ap, ◌∙◌, subst}
+use mathlib.Core.Path.{◌≡◌, refl, sym, ap, subst}
 use mathlib.Core.List.{List, [], ◌∷◌, ◌++◌}
 use lib.ListN.{length, take}
 use lib.Seq.{length-take-le}
@@ -38,25 +38,20 @@ take_all zero (i ∷ w) all = absurd (omega arith)
 take_all (suc n) [] all = refl
 take_all (suc n) (i ∷ w) all = ap (λ (v : Word). i ∷ v) (take_all n w (omega arith))
 
--- the inputs of a middle, which stand in l
-module _ (y : Middle) (l : List ℕ) (five : l ≡ five_inputs y) (valid : Valid 16 (five_inputs y)) where
-  pub part_middle : take (y.len - 0) l ≡ middle_word y
-  part_middle = rw (sub-zero y.len, five)
+-- the first n inputs of a middle, which stand in l
+module _ (y : Middle) (n : ℕ) (short : n ≡ min y.len 5) (l : List ℕ) (five : l ≡ five_inputs y) (valid : Valid 16 (five_inputs y)) where
+  pub part_middle : take n l ≡ middle_word y
+  part_middle =
+      rw five (elim (dec_le y.len 5) [
+        | yes less ↦ let all : n ≡ y.len = omega arith in rw all
+        | no more ↦ let all : n ≡ 5 = omega arith in rw all (sym (take_all y.len (five_inputs y) (omega arith)))
+      ])
 
-  pub whole_middle : 5 ≤ y.len → l ≡ middle_word y
-  whole_middle all = five ∙ sym (take_all y.len (five_inputs y) all)
-
-  pub part_valid : Valid 16 (take (y.len - 0) l)
+  pub part_valid : Valid 16 (take n l)
   part_valid = rw part_middle (valid_take 16 y.len (five_inputs y) valid)
 
-  pub whole_valid : Valid 16 l
-  whole_valid = rw five valid
-
-  pub five_long : length l ≡ 5
-  five_long = rw five
-
-  pub part_short : y.len < 5 → length (take (y.len - 0) l) < 5
-  part_short less = omega (arith, length-take-le (y.len - 0) l (omega (arith, five_long)))
+  pub part_short : length (take n l) ≤ 5
+  part_short = omega (arith, length-take-le n l (omega (arith, ap (λ (w : Word). length w) five)))
 
 -- the inputs of a middle that a refusal has
 pub middle_valid : (r : Refusal) (c : ℕ) (y : Middle) (s : ℕ) → Fits (refusing r) → r ≡ Missing c y s → Valid 16 (five_inputs y)

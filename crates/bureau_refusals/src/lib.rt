@@ -7,8 +7,7 @@ ghost use Rattle.rules.specs.Answers.{refusing};
 ghost use Rattle.rules.specs.Line.{text, decimal};
 ghost use Rattle.theory.specs.Bounds.{Fits};
 ghost use Rattle.line_writer.specs.Puts.{Puts, Closes, most_digits};
-ghost use Rattle.line.specs.Lines.{line_room};
-ghost use Rattle.line.specs.Lines.{Says};
+ghost use Rattle.line.specs.Lines.{line_room, Says};
 ghost use Rattle.bureau_refusals.specs.Values.{spelled, five_inputs, middle_word, value_words, refused_line};
 
 use line::{Line, no_text, put_spot};
@@ -23,7 +22,7 @@ pub fn add_word(word: &[u8], out: &mut [u8], at: usize) -> usize
     ensures puts { Puts out.old at (text " " ++ spelled word.now) out.new result }
     ensures upper_bound { result ≤ at + 2 + length word.now }
 {
-    if word.len() == 0 {
+    if word.is_empty() {
         return put_text(b" -", out, at);
     }
     add_hex(word, out, at)
@@ -58,7 +57,7 @@ fn five_inputs(y: Middle) -> [u8; 5]
     [a.number(), b.number(), c.number(), d.number(), e.number()]
 }
 
-// A middle of five inputs has all of them, a shorter one the first.
+// A middle has the first of the five inputs, as many as its length says.
 fn add_middle(y: Middle, out: &mut [u8], at: usize) -> usize
     requires at_in_bounds { at + 7 ≤ length out.old }
     requires valid { Valid 16 (five_inputs y) }
@@ -66,11 +65,8 @@ fn add_middle(y: Middle, out: &mut [u8], at: usize) -> usize
     ensures upper_bound { result ≤ at + 7 }
 {
     let inputs = five_inputs(y);
-    let length = y.len as usize;
-    if length < 5 {
-        return add_word(&inputs[0..length], out, at);
-    }
-    add_word(&inputs, out, at)
+    let length = usize::from(y.len).min(5);
+    add_word(&inputs[..length], out, at)
 }
 
 fn put_missing(cover: usize, y: Middle, separator: usize, out: &mut [u8], at: usize) -> usize

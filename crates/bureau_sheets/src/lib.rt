@@ -18,10 +18,10 @@ use checker::accept;
 use judge::{Examined, examine_both, failing_word};
 use line::{Line, no_text};
 use line_writer::{add_decimal, put_text};
-use reader::{DossierRead, DossierShape, SheetRead, SheetShape, read_sheet};
-use rules::Output;
-use walker::{record_end, recorded_output};
-use walker_lookup::{golden_output_at, same_word, word_place};
+use reader::{DossierShape, SheetShape, read_sheet};
+use rules::{GoldenState, Output};
+use walker::{Table, record_end, recorded_output};
+use walker_lookup::{output_at, same_word, word_place};
 
 // The place of the record that has a word of the dossier. There is one, so the search ends.
 fn record_place(
@@ -91,7 +91,8 @@ fn deviating_line(
     ensures { Says (judge_line dossier.now sheet.now) result }
 {
     let word = word_place(dossier, x.tests, x.inputs, x.count, place);
-    let expected = golden_output_at(dossier, x.table, x.inputs, x.states, word, step);
+    let golden: Table<'_, GoldenState> = Table::standing(dossier, x.table, x.inputs, x.states);
+    let expected = output_at(&golden, dossier, word, step);
     let record = record_place(dossier, word, sheet, y.records, x.inputs, y.count);
     let recorded = recorded_output(sheet, record, step);
     deviates_line(
@@ -118,10 +119,10 @@ pub fn judge_line(dossier: &[u8], sheet: &[u8]) -> Line
     ensures { Says (judge_line dossier.now sheet.now) result }
 {
     match accept(dossier) {
-        DossierRead::Holds(x) => match read_sheet(sheet, x.inputs) {
-            SheetRead::Holds(y) => examined_line(dossier, x, sheet, y),
-            SheetRead::Refused(r) => refused_line(r),
+        Ok(x) => match read_sheet(sheet, x.inputs) {
+            Ok(y) => examined_line(dossier, x, sheet, y),
+            Err(r) => refused_line(r),
         },
-        DossierRead::Refused(r) => refused_line(r),
+        Err(r) => refused_line(r),
     }
 }

@@ -43,10 +43,8 @@ fn print_byte(rt: &impl Print, byte: u8) -> io::Result<()> {
 fn print_bytes(rt: &impl Print, bytes: &[u8], n: usize) -> io::Result<()>
     requires { n ≤ length bytes.now }
 {
-    let mut i = 0;
-    while i < n {
-        print_byte(rt, bytes[i])?;
-        i += 1;
+    for byte in &bytes[..n] {
+        print_byte(rt, *byte)?;
     }
     print(rt, b"\n")
 }

@@ -6,6 +6,7 @@ use mathlib.Core.Path.{◌≡◌, sym, ◌∙◌, ap}
 use mathlib.Core.List.Memᴰ
 use mathlib.Core.List.{List, []}
 use lib.ListN.{length, get_or}
+use Rattle.std.specs.Prelude.{Option, Some, None, Ok, Err}
 use Rattle.rules.specs.declared.Middle.{Middle}
 use Rattle.rules.specs.declared.Refusal.TheVariants.{Missing}
 use Rattle.rules.specs.Lists.{◌∈◌}
@@ -16,10 +17,7 @@ use Rattle.theory.specs.Sound.{Sound, sound-fine}
 use Rattle.reader.specs.declared.DossierShape.{DossierShape}
 use Rattle.reader.specs.Places.{words_at}
 use Rattle.reader.specs.Turns.{words_end}
-use Rattle.soundness.specs.declared.Finding.TheVariants.{Fine, Refused}
 use Rattle.soundness.specs.Lent.{Lent, sound_of, finding_of}
-use Rattle.checker_search.specs.declared.Lack.{Lack}
-use Rattle.checker_search.specs.declared.Lack.TheVariants.{Nowhere, At}
 use Rattle.checker_search.specs.Blocks.{enough_of, longest_at, LackOf}
 use Rattle.checker_enough.specs.Begun.{Begun}
 use Rattle.checker_enough.proofs.Untested.{untested}
@@ -48,7 +46,7 @@ module _ (s : List ℕ) (x : DossierShape) (lent : Lent s x) (good : sound_of s 
       }
 
   -- where there is no test, none begins with it
-  pub none_tested : x.count ≡ 0 → (m : Middle) → m ≡ middle_of [] → Refused (Missing 0 m 0) ≡ finding_of (enough_of s)
+  pub none_tested : x.count ≡ 0 → (m : Middle) → m ≡ middle_of [] → Err (Missing 0 m 0) ≡ finding_of (enough_of s)
   none_tested none m is =
       let no_tests : lent.held.tests ≡ [] = sym lent.stands.tests_words ∙ words_end s x.tests x.count (omega arith) in
       let (w, in_separating) = is_sound.separator in
@@ -56,15 +54,15 @@ module _ (s : List ℕ) (x : DossierShape) (lent : Lent s x) (good : sound_of s 
       rw (lent.reads, lacks, is)
 
 -- what the search found is what 11 says
-module _ (s : List ℕ) (x : DossierShape) (r : Lack) (found : LackOf s x r) where
-  pub none_lacking : r ≡ Nowhere → Fine ≡ finding_of (enough_of s)
-  none_lacking is = let none : finding_of (enough_of s) ≡ Fine = rw is at found in sym none
+module _ (s : List ℕ) (x : DossierShape) (r : Option (ℕ × ℕ × ℕ)) (found : LackOf s x r) where
+  pub none_lacking : r ≡ None → Ok tt ≡ finding_of (enough_of s)
+  none_lacking is = let none : finding_of (enough_of s) ≡ Ok tt = rw is at found in sym none
 
-  module _ (c y e : ℕ) (is : r ≡ At c y e) (longest : ℕ) (longest_is : longest ≡ longest_at x) where
+  module _ (c y e : ℕ) (is : r ≡ Some (c, y, e)) (longest : ℕ) (longest_is : longest ≡ longest_at x) where
     pub lacking_inside : y < length (shortlex x.inputs longest)
-    lacking_inside = let here : LackOf s x (At c y e) = rw is at found in rw longest_is here.0
+    lacking_inside = let here : LackOf s x (Some (c, y, e)) = rw is at found in rw longest_is here.0
 
-    pub some_lacking : (m : Middle) → m ≡ middle_of (get_or (shortlex x.inputs longest) y []) → Refused (Missing c m e) ≡ finding_of (enough_of s)
+    pub some_lacking : (m : Middle) → m ≡ middle_of (get_or (shortlex x.inputs longest) y []) → Err (Missing c m e) ≡ finding_of (enough_of s)
     some_lacking m m_is =
-        let here : LackOf s x (At c y e) = rw is at found in
-        ap (λ (m : Middle). Refused (Missing c m e)) (m_is ∙ ap (λ (b : ℕ). middle_of (get_or (shortlex x.inputs b) y [])) longest_is) ∙ sym here.1
+        let here : LackOf s x (Some (c, y, e)) = rw is at found in
+        ap (λ (m : Middle). Err (Missing c m e)) (m_is ∙ ap (λ (b : ℕ). middle_of (get_or (shortlex x.inputs b) y [])) longest_is) ∙ sym here.1

@@ -8,6 +8,7 @@ use mathlib.Core.List.{List, [], ◌∷◌, ◌++◌, append_assoc, append-nil}
 use mathlib.Core.Bool.{Bool, true, false, not}
 use mathlib.Core.Option.{some}
 use lib.ListN.{length, get_or, drop, drop_of_length-le}
+use Rattle.std.specs.Prelude.{Option, Some, None, Ok, Err}
 use Rattle.rules.specs.declared.Refusal.{Refusal}
 use Rattle.rules.specs.declared.Refusal.TheVariants.{Missing}
 use Rattle.rules.specs.Lists.{placed_from, placed, any, first}
@@ -21,20 +22,16 @@ use Rattle.reader.specs.declared.DossierShape.{DossierShape}
 use Rattle.reader.specs.Places.{word_at, after_word, words_at, WordsAt}
 use Rattle.reader.specs.Turns.{WordTurn, word_turn, words_end, words_count}
 use Rattle.walker.specs.Walks.{Whole}
-use Rattle.trie.specs.declared.Walked.TheVariants.{Off as WalkedOff}
 use Rattle.trie.specs.Model.{Trie, size, word_of, walk_from, holding, Proper}
 use Rattle.trie.specs.Holds.{Holds, Node}
 use Rattle.trie.specs.Grow.{size_pos}
 use Rattle.trie.specs.Values.{marks_of, Noted}
 use Rattle.trie.specs.Words.{begins_off}
-use Rattle.soundness.specs.declared.Finding.TheVariants.{Fine, Refused}
 use Rattle.checker_ways.specs.declared.Way.{Way}
 use Rattle.checker_ways.specs.declared.Way.TheVariants.{Off, Known, To}
 use Rattle.soundness.specs.Lent.{finding_of}
 use Rattle.trie_filing.specs.Distinct.{firsts}
 use Rattle.checker_ways.specs.Kept.{WayOf, KeptAt, KeptNext, Keeping}
-use Rattle.checker_search.specs.declared.Lack.{Lack}
-use Rattle.checker_search.specs.declared.Lack.TheVariants.{Nowhere, At}
 use Rattle.checker_search.specs.Blocks.{enough_of, scan, lacking_at, found_at, at_middle, at_cover, at_all, tests_at, trie_at, firsts_at, longest_at, middles_at, Closed, Covered, Marked, LackOf, Searching}
 use Rattle.soundness.proofs.Sized.{few_inputs, bound_near}
 use Rattle.trie_filing.proofs.Once.{first_place, firsts_few}
@@ -62,7 +59,7 @@ module _ {t : Trie} {P : Word → Type 0} where
       }
 
 -- what a way says of its word
-way_off : (t : Trie) (marks : List ℕ) (w : Word) (r : Way) → WayOf t marks w r → r ≡ Off → walk_from t 0 w ≡ WalkedOff
+way_off : (t : Trie) (marks : List ℕ) (w : Word) (r : Way) → WayOf t marks w r → r ≡ Off → walk_from t 0 w ≡ None
 way_off t marks w r way is = rw is at way
 
 way_known : {t : Trie} {P : Word → Type 0} (marks : List ℕ) (w : Word) (r : Way) → WayOf t marks w r → r ≡ Known → Marked t P marks → P w
@@ -81,7 +78,7 @@ to_stays : (r : Way) (node : ℕ) → r ≡ To node → r ≡ Off → ⊥
 to_stays r node to off = let z : ◌≡◌ {A = ℕ} 0 1 = cc in omega arith
 
 -- A word that leaves the trie begins no test, and no longer one does.
-lacks_longer : (tests : List Word) → 0 < length tests → (v w : Word) → walk_from (holding tests) 0 v ≡ WalkedOff → any (begins (v ++ w)) tests ≡ false
+lacks_longer : (tests : List Word) → 0 < length tests → (v w : Word) → walk_from (holding tests) 0 v ≡ None → any (begins (v ++ w)) tests ≡ false
 lacks_longer [] more v w off = absurd (omega arith)
 lacks_longer (u ∷ us) more v w off =
     elim (outcome (any (begins (v ++ w)) (u ∷ us))) [
@@ -158,12 +155,12 @@ module _ {s : List ℕ} {x : DossierShape} {total n : ℕ} {label firsts_of next
       ∙ sym (λ i. at_all (stands.tests_words i) (firsts (stands.separating_words i)) (shortlex (stands.inputs i) (suc (bound_of (stands.states i) (stands.bound_byte i) - stands.states i))) (stands.cover_words i)))
 
   -- behind a word that leaves the trie the first separating word is the first that is missing
-  off_found : (v : Word) → walk_from t 0 v ≡ WalkedOff → (s : Word) × (first (lacking_at T v) F ≡ some (0, s))
+  off_found : (v : Word) → walk_from t 0 v ≡ None → (s : Word) × (first (lacking_at T v) F ≡ some (0, s))
   off_found v off =
       let (w, l, e) = firsts_start (words_at s x.separating x.separators) (omega (arith, words_count s x.separating x.separators, h.some_separator)) in
       (w, ap (first (lacking_at T v)) e ∙ rw (lacks_longer T tested v w off))
 
-  middle_lacks : (i : ℕ) (u y : Word) → walk_from t 0 (u ++ y) ≡ WalkedOff → at_middle T F i u y ≡ Refused (Missing i (middle_of y) 0)
+  middle_lacks : (i : ℕ) (u y : Word) → walk_from t 0 (u ++ y) ≡ None → at_middle T F i u y ≡ Err (Missing i (middle_of y) 0)
   middle_lacks i u y off = let (w, e) = off_found (u ++ y) off in ap (found_at i y) e
 
   -- The cover words.
@@ -178,7 +175,7 @@ module _ {s : List ℕ} {x : DossierShape} {total n : ℕ} {label firsts_of next
       }
 
   module _ {marks done : List ℕ} {c word : ℕ} (covering : Covering s x marks done c word) where
-    pub cover_none : x.covers ≤ c → (found : Lack) → found ≡ Nowhere → LackOf s x found
+    pub cover_none : x.covers ≤ c → (found : Option (ℕ × ℕ × ℕ)) → found ≡ None → LackOf s x found
     cover_none over found none =
         rw none
         (answer_is ∙ covering.rest ∙ ap (λ (ws : List Word). scan (at_cover T F M) (placed_from c ws)) (words_end s word (x.covers - c) (omega arith)) ∙ scan_end (at_cover T F M))
@@ -190,13 +187,13 @@ module _ {s : List ℕ} {x : DossierShape} {total n : ℕ} {label firsts_of next
       pub cover_whole : Whole s word
       cover_whole = turn.here.inside
 
-      cover_found : (r : Refusal) → at_cover T F M (c, word_at s word) ≡ Refused r → finding_of (enough_of s) ≡ Refused r
+      cover_found : (r : Refusal) → at_cover T F M (c, word_at s word) ≡ Err r → finding_of (enough_of s) ≡ Err r
       cover_found r found =
           answer_is ∙ covering.rest ∙ ap (λ (ws : List Word). scan (at_cover T F M) (placed_from c ws)) turn.words ∙ scan_refused (at_cover T F M) (c, word_at s word) _ r found
 
-      cover_next : (len : ℕ) → len ≡ get_or s word 0 → (marks' done' : List ℕ) → at_cover T F M (c, word_at s word) ≡ Fine → Marked t (Closed s x) marks' → Marked t (Covered s x) done'
-          → Covering s x marks' done' (c + 1) (word + 1 + len)
-      cover_next len is marks' done' fine closed covered =
+      cover_next : (after : ℕ) → after ≡ after_word s word → (marks' done' : List ℕ) → at_cover T F M (c, word_at s word) ≡ Ok tt → Marked t (Closed s x) marks' → Marked t (Covered s x) done'
+          → Covering s x marks' done' (c + 1) after
+      cover_next after is marks' done' fine closed covered =
           let one_less : x.covers - (c + 1) ≡ x.covers - c - 1 = omega arith in
           record {
             stand = rw (is, one_less) turn.rest;
@@ -214,7 +211,7 @@ module _ {s : List ℕ} {x : DossierShape} {total n : ℕ} {label firsts_of next
         way : WayOf t done (word_at s word) r
         way = tells t h.holds
 
-        pub cover_off : r ≡ Off → LackOf s x (At c 0 0)
+        pub cover_off : r ≡ Off → LackOf s x (Some (c, 0, 0))
         cover_off is =
             let off = way_off t done (word_at s word) r way is in
             let (l, e) = shortlex_starts x.inputs (longest_at x) in
@@ -222,11 +219,11 @@ module _ {s : List ℕ} {x : DossierShape} {total n : ℕ} {label firsts_of next
             let some_middle : 0 < length M = rw e (omega arith) in (
               some_middle,
               cover_found _ (ap (scan (at_middle T F c (word_at s word))) e ∙ scan_refused (at_middle T F c (word_at s word)) [] l _ (middle_lacks c (word_at s word) [] (ap (walk_from t 0) (append-nil (word_at s word)) ∙ off)))
-                  ∙ ap (λ (w : Word). Refused (Missing c (middle_of w) 0)) (sym first_is),
+                  ∙ ap (λ (w : Word). Err (Missing c (middle_of w) 0)) (sym first_is),
             )
 
-        pub cover_known : r ≡ Known → (len : ℕ) → len ≡ get_or s word 0 → Covering s x marks done (c + 1) (word + 1 + len)
-        cover_known is len len_is = cover_next len len_is marks done (way_known done (word_at s word) r way is covering.covered c) covering.closed covering.covered
+        pub cover_known : r ≡ Known → (after : ℕ) → after ≡ after_word s word → Covering s x marks done (c + 1) after
+        cover_known is after after_is = cover_next after after_is marks done (way_known done (word_at s word) r way is covering.covered c) covering.closed covering.covered
 
         pub middle_start : (nodes : List ℕ) (from : ℕ) → r ≡ To from → Going s x marks nodes c word from 0
         middle_start nodes from is =
@@ -242,13 +239,13 @@ module _ {s : List ℕ} {x : DossierShape} {total n : ℕ} {label firsts_of next
     v = word_of t from ++ get_or M y []
 
     -- all of them were passed
-    pub cover_done : {marks₁ done done' : List ℕ} → Covering s x marks₁ done c word → c < x.covers → total ≤ y → (len : ℕ) → len ≡ get_or s word 0 → MarksIt done done' from
-        → Covering s x marks done' (c + 1) (word + 1 + len)
-    cover_done {marks₁} {done} {done'} covering less over len len_is marks_it =
+    pub cover_done : {marks₁ done done' : List ℕ} → Covering s x marks₁ done c word → c < x.covers → total ≤ y → (after : ℕ) → after ≡ after_word s word → MarksIt done done' from
+        → Covering s x marks done' (c + 1) after
+    cover_done {marks₁} {done} {done'} covering less over after after_is marks_it =
         let over' : length M ≤ y = omega (arith, h.all_middles) in
         let all : Covered s x u = λ i. other_number T F M u c i (going.rest ∙ ap (scan (at_middle T F c u)) (drop_of_length-le M over') ∙ scan_end (at_middle T F c u)) in
-        let here : at_cover T F M (c, word_at s word) ≡ Fine = rw (← going.word_is) (all c) in
-        cover_next covering less len len_is marks done' here going.closed (marked_more done done' from marks_it h.holds.proper going.below all covering.covered)
+        let here : at_cover T F M (c, word_at s word) ≡ Ok tt = rw (← going.word_is) (all c) in
+        cover_next covering less after after_is marks done' here going.closed (marked_more done done' from marks_it h.holds.proper going.below all covering.covered)
 
     module _ (less : y < total) where
       inside : y < length M
@@ -264,7 +261,7 @@ module _ {s : List ℕ} {x : DossierShape} {total n : ℕ} {label firsts_of next
             longest = longest_at x;
             short = omega (arith, bound_near s x h.lent);
             few = (few_inputs s x h.lent).1;
-            places = long ∙ h.nodes_long;
+            places = long ∙ h.kept_long;
             less = inside;
             kept = going.kept;
           }
@@ -282,10 +279,10 @@ module _ {s : List ℕ} {x : DossierShape} {total n : ℕ} {label firsts_of next
                 ∙ scan_fine (at_middle T F c u) (get_or M y []) (drop (y + 1) M) (ap (found_at c (get_or M y [])) here);
           }
 
-      middle_found : {marks₁ done : List ℕ} → Covering s x marks₁ done c word → c < x.covers → (e : ℕ) → at_middle T F c u (get_or M y []) ≡ Refused (Missing c (middle_of (get_or M y [])) e)
-          → LackOf s x (At c y e)
+      middle_found : {marks₁ done : List ℕ} → Covering s x marks₁ done c word → c < x.covers → (e : ℕ) → at_middle T F c u (get_or M y []) ≡ Err (Missing c (middle_of (get_or M y [])) e)
+          → LackOf s x (Some (c, y, e))
       middle_found covering less_covers e found =
-          let behind : at_cover T F M (c, u) ≡ Refused (Missing c (middle_of (get_or M y [])) e)
+          let behind : at_cover T F M (c, u) ≡ Err (Missing c (middle_of (get_or M y [])) e)
           = going.rest ∙ ap (scan (at_middle T F c u)) (left_cons M y [] inside) ∙ scan_refused (at_middle T F c u) (get_or M y []) (drop (y + 1) M) _ found in
           (inside, cover_found covering less_covers _ (rw (← going.word_is) behind))
 
@@ -294,7 +291,7 @@ module _ {s : List ℕ} {x : DossierShape} {total n : ℕ} {label firsts_of next
         way_here : WayOf t marks v r × KeptNext t from M nodes' y r
         way_here = tells t (longest_at x) h.holds going.below inside going.kept
 
-        pub middle_off : r ≡ Off → {marks₁ done : List ℕ} → Covering s x marks₁ done c word → c < x.covers → LackOf s x (At c y 0)
+        pub middle_off : r ≡ Off → {marks₁ done : List ℕ} → Covering s x marks₁ done c word → c < x.covers → LackOf s x (Some (c, y, 0))
         middle_off is covering less_covers = middle_found covering less_covers 0 (middle_lacks c u (get_or M y []) (way_off t marks v r way_here.0 is))
 
         pub middle_known : r ≡ Known → Going s x marks nodes' c word from (y + 1)
@@ -341,10 +338,10 @@ module _ {s : List ℕ} {x : DossierShape} {total n : ℕ} {label firsts_of next
             }
 
         pub separator_lacks : r ≡ false → {marks nodes : List ℕ} {c word : ℕ} → Going s x marks nodes c word from y → y < total
-            → {marks₁ done : List ℕ} → Covering s x marks₁ done c word → c < x.covers → (j : ℕ) → j ≡ get_or numbers e 0 → LackOf s x (At c y j)
+            → {marks₁ done : List ℕ} → Covering s x marks₁ done c word → c < x.covers → (j : ℕ) → j ≡ get_or numbers e 0 → LackOf s x (Some (c, y, j))
         separator_lacks lacks {c = c} going less_middles covering less_covers j is =
             let found = trying.rest ∙ first_here (lacking_at T (word_of t node)) F e (0, []) within (lacking_is ∙ ap not lacks) in
             middle_found going less_middles covering less_covers _
             (ap (λ (w : Word). found_at c (get_or M y []) (first (lacking_at T w) F)) (sym trying.word_is)
             ∙ ap (found_at c (get_or M y [])) found
-            ∙ ap (λ (j : ℕ). Refused (Missing c (middle_of (get_or M y [])) j)) (sym (is ∙ h.once.number e less)))
+            ∙ ap (λ (j : ℕ). Err (Missing c (middle_of (get_or M y [])) j)) (sym (is ∙ h.once.number e less)))

@@ -1,5 +1,5 @@
 -- The first needed word that begins no test, found block by block.
-use Prim.Native.Nat.{ℕ, ◌+◌, ◌-◌, ◌≤◌, ◌<◌}
+use Prim.Native.Nat.{ℕ, ◌+◌, ◌≤◌, ◌<◌}
 use native.Mathlib.Omega.{arith}
 use native.Mathlib.Numerals.{add-one}
 use mathlib.Core.Path.{◌≡◌, refl, ◌∙◌, ap}
@@ -18,17 +18,16 @@ use Rattle.rules.specs.Needed.{Need, needed, middles, missing}
 use Rattle.rules.specs.Answers.{middle_of}
 use Rattle.rules.specs.Operations.{require_none, enough}
 use Rattle.theory.specs.Lists.{outcome, optional, first_left, first_right}
-use Rattle.soundness.specs.declared.Finding.{Finding}
-use Rattle.soundness.specs.declared.Finding.TheVariants.{Fine, Refused}
 use Rattle.soundness.specs.Lent.{finding_of}
 use Rattle.trie_filing.specs.Distinct.{firsts}
-use Rattle.checker_search.specs.Blocks.{or_else, scan, lacking_at, found_at, at_middle, at_cover, at_all}
+use Rattle.std.specs.Prelude.{Ok, Err}
+use Rattle.checker_search.specs.Blocks.{Finding, or_else, scan, lacking_at, found_at, at_middle, at_cover, at_all}
 use Rattle.trie_filing.proofs.Firsts.{first-firsts}
 
 -- what is said of a needed word that was found
 abbrev need_found : Option Need → Finding
-need_found none = Fine
-need_found (some x) = Refused (Missing x.cover_place (middle_of x.middle) x.separator_place)
+need_found none = Ok tt
+need_found (some x) = Err (Missing x.cover_place (middle_of x.middle) x.separator_place)
 
 need_found_lem : (o : Option Need) → finding_of (require_none o (λ x. Missing x.cover_place (middle_of x.middle) x.separator_place)) ≡ need_found o
 need_found_lem none = refl
@@ -80,15 +79,15 @@ enough_once d =
     ∙ scan_same _ _ (λ p. scan_same _ _ (λ y. ap (found_at p.0 y) (first-firsts (λ w. not (any (begins ((p.1 ++ y) ++ w)) d.tests)) d.separating)) (middles d)) (placed d.cover)
 
 -- one turn of a scan
-pub scan_fine : {A : Type 0} (f : A → Finding) (a : A) (l : List A) → f a ≡ Fine → scan f (a ∷ l) ≡ scan f l
+pub scan_fine : {A : Type 0} (f : A → Finding) (a : A) (l : List A) → f a ≡ Ok tt → scan f (a ∷ l) ≡ scan f l
 unfolding scan
 scan_fine f a l e = rw e
 
-pub scan_refused : {A : Type 0} (f : A → Finding) (a : A) (l : List A) (r : Refusal) → f a ≡ Refused r → scan f (a ∷ l) ≡ Refused r
+pub scan_refused : {A : Type 0} (f : A → Finding) (a : A) (l : List A) (r : Refusal) → f a ≡ Err r → scan f (a ∷ l) ≡ Err r
 unfolding scan
 scan_refused f a l r e = rw e
 
-pub scan_end : {A : Type 0} (f : A → Finding) → scan f [] ≡ Fine
+pub scan_end : {A : Type 0} (f : A → Finding) → scan f [] ≡ Ok tt
 unfolding scan
 scan_end f = refl
 
@@ -107,16 +106,16 @@ module _ {A : Type 0} (test : A → Bool) (l : List A) (i : ℕ) (d : A) where
   first_end h = rw (drop_of_length-le l h)
 
 -- where nothing is found, nothing is found for another number of the cover word
-found_none : (i : ℕ) (y : Word) (o : Option (ℕ × Word)) → found_at i y o ≡ Fine → o ≡ none
+found_none : (i : ℕ) (y : Word) (o : Option (ℕ × Word)) → found_at i y o ≡ Ok tt → o ≡ none
 found_none i y none e = refl
 found_none i y (some (j, s)) e = let z : ◌≡◌ {A = ℕ} 0 1 = cc in absurd (omega arith)
 
-or_fine : (a b : Finding) → or_else a b ≡ Fine → (a ≡ Fine) × (b ≡ Fine)
-or_fine Fine b e = (refl, e)
-or_fine (Refused r) b e = let z : ◌≡◌ {A = ℕ} 0 1 = cc in absurd (omega arith)
+or_fine : (a b : Finding) → or_else a b ≡ Ok tt → (a ≡ Ok tt) × (b ≡ Ok tt)
+or_fine (Ok u) b e = (refl, e)
+or_fine (Err r) b e = let z : ◌≡◌ {A = ℕ} 0 1 = cc in absurd (omega arith)
 
 pub other_number : (tests : List Word) (separators : List (ℕ × Word)) (ms : List Word) (u : Word) (i j : ℕ)
-    → at_cover tests separators ms (i, u) ≡ Fine → at_cover tests separators ms (j, u) ≡ Fine
+    → at_cover tests separators ms (i, u) ≡ Ok tt → at_cover tests separators ms (j, u) ≡ Ok tt
 unfolding scan
 other_number tests separators [] u i j e = refl
 other_number tests separators (y ∷ ms) u i j e =

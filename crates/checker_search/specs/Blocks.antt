@@ -2,6 +2,8 @@
 -- behind a cover word and a middle, the middles behind a cover word, the cover words.
 use Rattle.std.specs.Prelude.{ℕ, suc, ◌-◌, ◌≤◌, ◌<◌, ◌≡◌, List, [], ◌∷◌, ◌++◌, Bool, true, not, length, get_or}
 use Rattle.std.proofs.Math.Option.{Option, none, some}
+use Rattle.std.specs.Prelude.{Option as Found, Some, None, Result, Ok, Err}
+use Rattle.rules.specs.declared.Refusal.{Refusal}
 use Rattle.rules.specs.declared.Refusal.TheVariants.{Missing}
 use Rattle.rules.specs.Lists.{placed, any, first}
 use Rattle.rules.specs.Sizes.{bound_of}
@@ -13,25 +15,25 @@ use Rattle.reader.specs.Places.{words_at}
 use Rattle.trie.specs.Model.{Trie, holding}
 use Rattle.trie.specs.Holds.{Holds}
 use Rattle.trie.specs.Values.{marks_of, Noted}
-use Rattle.soundness.specs.declared.Finding.{Finding}
-use Rattle.soundness.specs.declared.Finding.TheVariants.{Fine, Refused}
 use Rattle.soundness.specs.Lent.{Lent, finding_of}
 use Rattle.trie_filing.specs.Distinct.{firsts, FirstPlaces}
-use Rattle.checker_search.specs.declared.Lack.{Lack}
-use Rattle.checker_search.specs.declared.Lack.TheVariants.{Nowhere, At}
 
 -- 11 of the dossier that bytes hold
 abbrev pub enough_of : List ℕ → Outcome (Unit {0})
 enough_of s = ◌>>=◌ (read_dossier s) enough
 
+-- nothing to refuse, or a refusal
+abbrev pub Finding : Type 0
+Finding = Result (Unit {0}) Refusal
+
 -- the first of two findings that refuses
 abbrev pub or_else : Finding → Finding → Finding
-or_else Fine b = b
-or_else (Refused r) b = Refused r
+or_else (Ok u) b = b
+or_else (Err r) b = Err r
 
 -- the first finding that refuses
 unfoldable pub scan : {A : Type 0} → (A → Finding) → List A → Finding
-scan f [] = Fine
+scan f [] = Ok tt
 scan f (a ∷ l) = or_else (f a) (scan f l)
 
 -- whether v, then a separating word, begins no test
@@ -39,8 +41,8 @@ abbrev pub lacking_at : List Word → Word → ℕ × Word → Bool
 lacking_at tests v (j, s) = not (any (begins (v ++ s)) tests)
 
 abbrev pub found_at : ℕ → Word → Option (ℕ × Word) → Finding
-found_at i y none = Fine
-found_at i y (some (j, s)) = Refused (Missing i (middle_of y) j)
+found_at i y none = Ok tt
+found_at i y (some (j, s)) = Err (Missing i (middle_of y) j)
 
 -- behind the cover word u, which has the number i, and the middle y
 abbrev pub at_middle : List Word → List (ℕ × Word) → ℕ → Word → Word → Finding
@@ -75,7 +77,7 @@ Closed s x v = first (lacking_at (tests_at s x) v) (firsts_at s x) ≡ none
 
 -- every middle and separating word behind u does
 abbrev pub Covered : List ℕ → DossierShape → Word → Type 0
-Covered s x u = (i : ℕ) → at_cover (tests_at s x) (firsts_at s x) (middles_at x) (i, u) ≡ Fine
+Covered s x u = (i : ℕ) → at_cover (tests_at s x) (firsts_at s x) (middles_at x) (i, u) ≡ Ok tt
 
 -- the words of the marked nodes are of that kind
 pub record Marked (t : Trie) (P : Word → Type 0) (marks : List ℕ) : Type 0 where
@@ -84,12 +86,12 @@ pub record Marked (t : Trie) (P : Word → Type 0) (marks : List ℕ) : Type 0 w
   pub good : (w : Word) → is_in w words ≡ true → P w
 
 -- what the search answers: nothing is missing, or the first needed word that is, by its numbers
-abbrev pub LackOf : List ℕ → DossierShape → Lack → Type 0
-LackOf s x Nowhere = finding_of (enough_of s) ≡ Fine
-LackOf s x (At c y e) = (y < length (middles_at x)) × (finding_of (enough_of s) ≡ Refused (Missing c (middle_of (get_or (middles_at x) y [])) e))
+abbrev pub LackOf : List ℕ → DossierShape → Found (ℕ × ℕ × ℕ) → Type 0
+LackOf s x None = finding_of (enough_of s) ≡ Ok tt
+LackOf s x (Some (c, y, e)) = (y < length (middles_at x)) × (finding_of (enough_of s) ≡ Err (Missing c (middle_of (get_or (middles_at x) y [])) e))
 
 -- what the search is lent
-pub record Searching (s : List ℕ) (x : DossierShape) (total : ℕ) (label first next marks done nodes numbers places : List ℕ) (n : ℕ) : Type 0 where
+pub record Searching (s : List ℕ) (x : DossierShape) (total : ℕ) (label first next marks done kept numbers places : List ℕ) (n : ℕ) : Type 0 where
   pub lent : Lent s x
   pub some_test : 0 < x.count
   pub some_separator : 0 < x.separators
@@ -100,7 +102,7 @@ pub record Searching (s : List ℕ) (x : DossierShape) (total : ℕ) (label firs
   pub none_done : (t : Trie) → Noted t (marks_of []) done
   pub marks_long : length marks ≡ length label
   pub done_long : length done ≡ length label
-  pub nodes_long : length nodes ≡ 69905
+  pub kept_long : length kept ≡ 69905
   pub once : FirstPlaces s x.separating x.separators numbers places n
   pub numbers_long : n ≤ length numbers
   pub places_long : n ≤ length places

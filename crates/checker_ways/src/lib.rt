@@ -13,42 +13,30 @@ ghost use Rattle.checker_ways.specs.Kept.{WayOf, KeptAt, KeptNext, Keeping};
 
 use numbers::wide_link;
 use rules::Input;
-use trie::{Walked, child, is_marked};
+use trie::{Nodes, child, is_marked};
 use trie_filing::walk_word;
 
 // From a node along the middle number y: one step from the node of the middle that it grows from.
-fn walk_middle(
-    inputs: u8,
-    y: usize,
-    label: &[u8],
-    first: &[u16],
-    next: &[u16],
-    nodes: &[u16],
-    from: usize,
-) -> Walked
-    requires { Keeping label.now first.now next.now nodes.now inputs from y }
-    ensures { (t : Trie) (longest : ℕ) → Holds t label.now first.now next.now → from < size t → y < length (shortlex inputs longest) → KeptAt t from (shortlex inputs longest) nodes.now y → result ≡ walk_from t from (get_or (shortlex inputs longest) y []) }
+fn walk_middle(inputs: u8, y: usize, nodes: Nodes, kept: &[u16], from: usize) -> Option<usize>
+    requires { Keeping nodes.label.now nodes.first.now nodes.next.now kept.now inputs from y }
+    ensures { (t : Trie) (longest : ℕ) → Holds t nodes.entry.label.now nodes.entry.first.now nodes.entry.next.now → from < size t → y < length (shortlex inputs longest) → KeptAt t from (shortlex inputs longest) kept.now y → result ≡ walk_from t from (get_or (shortlex inputs longest) y []) }
 {
     if y == 0 {
-        return Walked::At(from);
+        return Some(from);
     }
     let k = inputs as usize;
-    let up = wide_link(nodes[(y - 1) / k]);
+    let up = wide_link(kept[(y - 1) / k]);
     let i = (y - 1) % k;
-    let to = child(label, first, next, up, Input::numbered(i as u8));
-    if to == 0 {
-        return Walked::Off;
-    }
-    Walked::At(to)
+    child(nodes, up, Input::numbered(i as u8))
 }
 
 // Keeps the node of the middle number y, if others may grow from it.
-fn keep_node(nodes: &mut [u16], y: usize, node: usize)
+fn keep_node(kept: &mut [u16], y: usize, node: usize)
     requires { node < 65536 }
-    ensures { nodes.new ≡ set nodes.old y node }
+    ensures { kept.new ≡ set kept.old y node }
 {
-    if y < nodes.len() {
-        nodes[y] = node as u16;
+    if y < kept.len() {
+        kept[y] = node as u16;
     }
 }
 
@@ -61,72 +49,49 @@ pub enum Way {
 }
 
 // Along the cover word at a place.
-pub fn way_of_cover(
-    bytes: &[u8],
-    word: usize,
-    label: &[u8],
-    first: &[u16],
-    next: &[u16],
-    done: &[u8],
-) -> Way
+pub fn way_of_cover(bytes: &[u8], word: usize, nodes: Nodes, done: &[u8]) -> Way
     requires whole { Whole bytes.now word }
-    requires node { Node label.now first.now next.now 0 }
-    requires done_len { length done.now ≡ length label.now }
-    ensures { (t : Trie) → Holds t label.now first.now next.now → WayOf t done.now (word_at bytes.now word) result }
+    requires node { Node nodes.label.now nodes.first.now nodes.next.now 0 }
+    requires done_len { length done.now ≡ length nodes.label.now }
+    ensures { (t : Trie) → Holds t nodes.entry.label.now nodes.entry.first.now nodes.entry.next.now → WayOf t done.now (word_at bytes.now word) result }
 {
-    match walk_word(bytes, word, label, first, next, 0) {
-        Walked::At(node) => {
-            if is_marked(done, node) {
-                return Way::Known;
-            }
-            Way::To(node)
-        }
-        Walked::Off => Way::Off,
+    let Some(node) = walk_word(bytes, word, nodes, 0) else {
+        return Way::Off;
+    };
+    if is_marked(done, node) {
+        return Way::Known;
     }
+    Way::To(node)
 }
 
 // Along the middle number y behind the word of a node.
 pub fn way_of_middle(
     inputs: u8,
     y: usize,
-    label: &[u8],
-    first: &[u16],
-    next: &[u16],
+    nodes: Nodes,
     marks: &[u8],
-    nodes: &mut [u16],
+    kept: &mut [u16],
     from: usize,
 ) -> Way
-    requires keeping { Keeping label.now first.now next.now nodes.old inputs from y }
-    requires marks_len { length marks.now ≡ length label.now }
-    ensures { (t : Trie) (longest : ℕ) → Holds t label.now first.now next.now → from < size t → y < length (shortlex inputs longest) → KeptAt t from (shortlex inputs longest) nodes.old y → WayOf t marks.now (word_of t from ++ get_or (shortlex inputs longest) y []) result × KeptNext t from (shortlex inputs longest) nodes.new y result }
+    requires keeping { Keeping nodes.label.now nodes.first.now nodes.next.now kept.old inputs from y }
+    requires marks_len { length marks.now ≡ length nodes.label.now }
+    ensures { (t : Trie) (longest : ℕ) → Holds t nodes.entry.label.now nodes.entry.first.now nodes.entry.next.now → from < size t → y < length (shortlex inputs longest) → KeptAt t from (shortlex inputs longest) kept.old y → WayOf t marks.now (word_of t from ++ get_or (shortlex inputs longest) y []) result × KeptNext t from (shortlex inputs longest) kept.new y result }
 {
-    match walk_middle(inputs, y, label, first, next, nodes, from) {
-        Walked::At(end) => {
-            keep_node(nodes, y, end);
-            if is_marked(marks, end) {
-                return Way::Known;
-            }
-            Way::To(end)
-        }
-        Walked::Off => Way::Off,
+    let Some(end) = walk_middle(inputs, y, nodes, kept, from) else {
+        return Way::Off;
+    };
+    keep_node(kept, y, end);
+    if is_marked(marks, end) {
+        return Way::Known;
     }
+    Way::To(end)
 }
 
 // Whether the word of a node, then the word at a place, begins a test.
-pub fn begun(
-    bytes: &[u8],
-    word: u16,
-    label: &[u8],
-    first: &[u16],
-    next: &[u16],
-    node: usize,
-) -> bool
+pub fn begun(bytes: &[u8], word: u16, nodes: Nodes, node: usize) -> bool
     requires whole { Whole bytes.now word }
-    requires node { Node label.now first.now next.now node }
-    ensures { (tests : List Word) → 0 < length tests → Holds (holding tests) label.now first.now next.now → node < size (holding tests) → result ≡ any (begins (word_of (holding tests) node ++ word_at bytes.now word)) tests }
+    requires node { Node nodes.label.now nodes.first.now nodes.next.now node }
+    ensures { (tests : List Word) → 0 < length tests → Holds (holding tests) nodes.entry.label.now nodes.entry.first.now nodes.entry.next.now → node < size (holding tests) → result ≡ any (begins (word_of (holding tests) node ++ word_at bytes.now word)) tests }
 {
-    match walk_word(bytes, word as usize, label, first, next, node) {
-        Walked::At(_) => true,
-        Walked::Off => false,
-    }
+    walk_word(bytes, word as usize, nodes, node).is_some()
 }

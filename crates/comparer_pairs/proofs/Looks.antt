@@ -8,8 +8,7 @@ use borrow.Author.Tests.{not-true, not-false, eq-eqb, eqb-true}
 use lib.Dec.{eqb}
 use Rattle.rules.specs.Machines.{Machine}
 use Rattle.theory.specs.Lists.{outcome}
-use Rattle.comparer_pairs.specs.declared.Seen.{Seen}
-use Rattle.comparer_pairs.specs.declared.Seen.TheVariants.{Apart, Next}
+use Rattle.std.specs.Prelude.{Option, Some, None}
 use Rattle.comparer_pairs.specs.Pairs.{pair_of, golden_of, unit_of, golden_says, unit_says, next_pair, look_at}
 
 module _ (G U : Machine) (p i : ℕ) where
@@ -17,27 +16,27 @@ module _ (G U : Machine) (p i : ℕ) where
     agreed : b ≡ eqb (golden_says G p i) (unit_says U p i)
     agreed = says ∙ rw (golden, unit, input)
 
-    pub look_apart : not b ≡ true → Apart ≡ look_at G U p i
+    pub look_apart : not b ≡ true → None ≡ look_at G U p i
     unfolding look_at
     look_apart differ = rw (sym agreed ∙ not-true b differ)
 
-    pub look_next : not b ≡ false → (q r n : ℕ) → q ≡ G.next g x → r ≡ U.next u x → n ≡ pair_of q r → Next n ≡ look_at G U p i
+    pub look_next : not b ≡ false → (q r n : ℕ) → q ≡ G.next g x → r ≡ U.next u x → n ≡ pair_of q r → Some n ≡ look_at G U p i
     unfolding look_at next_pair
     look_next same q r n next unext is = rw (sym agreed ∙ not-false b same, is, next, unext, golden, unit, input)
 
   -- what was seen says whether the outputs differ, and which pair is next
-  module _ (r : Seen) (e : r ≡ look_at G U p i) where
-    pub seen_apart : r ≡ Apart → golden_says G p i ≢ unit_says U p i
+  module _ (r : Option ℕ) (e : r ≡ look_at G U p i) where
+    pub seen_apart : r ≡ None → golden_says G p i ≢ unit_says U p i
     unfolding look_at
     seen_apart is same =
-        let z : Next (next_pair G U p i) ≡ Apart = rw (eq-eqb _ _ same) at (sym e ∙ is) in
+        let z : Some (next_pair G U p i) ≡ None = rw (eq-eqb _ _ same) at (sym e ∙ is) in
         let no : ◌≡◌ {A = ℕ} 0 1 = cc in
         omega arith
 
-    pub seen_next : (n : ℕ) → r ≡ Next n → (golden_says G p i ≡ unit_says U p i) × (n ≡ next_pair G U p i)
+    pub seen_next : (n : ℕ) → r ≡ Some n → (golden_says G p i ≡ unit_says U p i) × (n ≡ next_pair G U p i)
     unfolding look_at
     seen_next n is =
         elim (outcome (eqb (golden_says G p i) (unit_says U p i))) [
-          | inl same ↦ (eqb-true _ _ same, let z : Next (next_pair G U p i) ≡ Next n = rw same at (sym e ∙ is) in cc)
-          | inr other ↦ let z : Apart ≡ Next n = rw other at (sym e ∙ is) in let no : ◌≡◌ {A = ℕ} 0 1 = cc in absurd (omega arith)
+          | inl same ↦ (eqb-true _ _ same, let z : Some (next_pair G U p i) ≡ Some n = rw same at (sym e ∙ is) in cc)
+          | inr other ↦ let z : None ≡ Some n = rw other at (sym e ∙ is) in let no : ◌≡◌ {A = ℕ} 0 1 = cc in absurd (omega arith)
         ]

@@ -2,6 +2,11 @@
 // the pairs that have been met, and the queue of them.
 #![tactic(auto)]
 
+ghost use Rattle.comparer_pairs.specs.Pairs.{Comparable};
+
+use rules::{GoldenState, UnitState};
+use walker::Table;
+
 mod marks;
 mod pairs;
 mod queue;
@@ -10,19 +15,10 @@ pub use marks::{is_met, meet, no_marks};
 pub use pairs::look;
 pub use queue::{entry, input_at, no_entries, pair_at, parent_at};
 
-// Where the two machines stand in their files.
-#[derive(Clone, Copy)]
-pub struct Sides {
-    pub inputs: u8,
-    pub table: usize,
-    pub states: u8,
-    pub utable: usize,
-    pub units: u8,
-}
-
-// What is seen of an input at a pair: golden and unit give different outputs, or the pair that it leads to.
-#[derive(Clone, Copy)]
-pub enum Seen {
-    Apart,
-    Next(usize),
+// The two machines that are compared, where they stand in their files.
+#[derive(Drop)]
+pub struct Sides<'a> {
+    pub golden: Table<'a, GoldenState>,
+    pub unit: Table<'a, UnitState>,
+    ghost comparable: { Comparable golden.inputs unit.inputs golden.states unit.states },
 }

@@ -1,11 +1,12 @@
 // A golden state and a unit state as one number, and what an input does at such a pair.
 ghost use Rattle.std.specs.Prelude.{◌≡◌, ◌<◌};
 ghost use Rattle.rules.specs.Sizes.{most_states};
-ghost use Rattle.comparer_pairs.specs.Pairs.{pairs, pair_of, golden_of, unit_of, look_at, golden_at, unit_at, SidesAt, Pair};
+ghost use Rattle.comparer_pairs.specs.Pairs.{pairs, pair_of, golden_of, unit_of, look_at, Pair};
+ghost use Rattle.walker.specs.Machines.{machine_in};
 
-use crate::{Seen, Sides};
+use crate::Sides;
 use rules::{GoldenState, Input, MOST_STATES, UnitState};
-use walker::{golden_next, outputs_agree, unit_next};
+use walker::outputs_agree;
 
 // How many states a machine may have.
 const STATES: usize = MOST_STATES as usize;
@@ -31,29 +32,17 @@ fn pair_of(golden: GoldenState, unit: UnitState) -> usize
     (golden.number() as usize) * STATES + (unit.number() as usize)
 }
 
-pub fn look(dossier: &[u8], unit: &[u8], sides: Sides, pair: usize, input: Input) -> Seen
-    requires sides_at { SidesAt dossier.now unit.now sides }
-    requires pair_lt_pairs { (pair < pairs) × Pair sides pair × (input.0 < sides.inputs) }
-    ensures { result ≡ look_at (golden_at dossier.now sides) (unit_at unit.now sides) pair input.0 }
+// The pair that an input leads to, where golden and unit give it the same output.
+pub fn look(sides: &Sides<'_>, pair: usize, input: Input) -> Option<usize>
+    requires { (pair < pairs) × Pair sides.now.golden.states sides.now.unit.states pair × (input.0 < sides.now.golden.inputs) }
+    ensures { result ≡ look_at (machine_in sides.now.golden) (machine_in sides.now.unit) pair input.0 }
 {
-    let inputs = sides.inputs;
     let g = golden_of(pair);
     let u = unit_of(pair);
-    if !outputs_agree(
-        dossier,
-        sides.table,
-        inputs,
-        sides.states,
-        g,
-        unit,
-        sides.utable,
-        sides.units,
-        u,
-        input,
-    ) {
-        return Seen::Apart;
+    if !outputs_agree(&sides.golden, g, &sides.unit, u, input) {
+        return None;
     }
-    let next = golden_next(dossier, sides.table, inputs, sides.states, g, input);
-    let unext = unit_next(unit, sides.utable, inputs, sides.units, u, input);
-    Seen::Next(pair_of(next, unext))
+    let next = sides.golden.next(g, input);
+    let unext = sides.unit.next(u, input);
+    Some(pair_of(next, unext))
 }

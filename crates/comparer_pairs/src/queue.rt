@@ -1,5 +1,5 @@
-// The queue of the pairs that have been met. An entry is one number, since a slice of structs cannot be lent: the entry that it
-// was met from, the input, and the pair.
+// The queue of the pairs that have been met. An entry is one number: the entry that it was met from, the input, and the pair. What it
+// says is divided out (`specs/Queue.antt`), and the search's laws order steps by it.
 ghost use Rattle.std.specs.Prelude.{◌≡◌, ◌<◌, length};
 ghost use Rattle.rules.specs.Sizes.{most_inputs};
 ghost use Rattle.comparer_pairs.specs.Pairs.{pairs};

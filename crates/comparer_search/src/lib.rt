@@ -5,38 +5,25 @@
 
 ghost use Rattle.std.specs.Prelude.{◌≡◌, false, ◌+◌, ◌≤◌, ◌<◌, length};
 ghost use Rattle.rules.specs.Sizes.{most_inputs};
-ghost use Rattle.comparer_pairs.specs.Pairs.{pairs, golden_at, unit_at, SidesAt};
-ghost use Rattle.comparer_pairs.specs.Marks.{MarkTable, met};
+ghost use Rattle.walker.specs.Machines.{machine_in};
+ghost use Rattle.comparer_pairs.specs.Pairs.{pairs};
+ghost use Rattle.comparer_pairs.specs.Marks.{met};
 ghost use Rattle.comparer_pairs.specs.Queue.{step_of};
 ghost use Rattle.comparer_search.specs.Search.{Searched, ProgressOf, FoundOf, PutOf};
 
-use comparer_pairs::{Seen, Sides, entry, is_met, look, meet, no_marks, pair_at};
+use comparer_pairs::{Sides, entry, is_met, look, meet, no_marks, pair_at};
 use rules::Input;
-
-// The input that tells golden and unit apart; or how many entries the queue has then.
-#[derive(Clone, Copy)]
-pub enum Progress {
-    Told(Input),
-    Upto(usize),
-}
-
-// The entry and the input at which golden and unit are told apart.
-#[derive(Clone, Copy)]
-pub enum Found {
-    Nowhere,
-    At(usize, Input),
-}
+use std::ops::ControlFlow;
 
 // Queues a pair, unless it was met before. The answer is how many entries the queue has then.
 fn put(
-    marks: &mut [u8],
-    queue: &mut [u32],
+    marks: &mut [u8; 4096],
+    queue: &mut [u32; 4096],
     tail: usize,
     pair: usize,
     head: usize,
     input: Input,
 ) -> usize
-    requires mark_table { MarkTable marks.old × (length queue.old ≡ pairs) }
     requires pair_lt_pairs { (pair < pairs) × (head < pairs) × (input.0 < most_inputs) }
     requires tail_lt_pairs { met marks.old pair ≡ false → tail < pairs }
     ensures { PutOf (met marks.old pair) marks.old queue.old tail pair (step_of head input.0) marks.new queue.new result }
@@ -49,83 +36,66 @@ fn put(
     tail + 1
 }
 
-// Tries one input at an entry of the queue.
+// Tries one input at an entry of the queue: breaks off where it tells golden and unit apart, and else goes on with as many entries
+// as the queue has then.
 fn try_input(
-    dossier: &[u8],
-    unit: &[u8],
-    sides: Sides,
-    marks: &mut [u8],
-    queue: &mut [u32],
+    sides: &Sides<'_>,
+    marks: &mut [u8; 4096],
+    queue: &mut [u32; 4096],
     head: usize,
     tail: usize,
     input: Input,
-) -> Progress
-    requires sides_at { SidesAt dossier.now unit.now sides }
-    requires searched { Searched sides.inputs (golden_at dossier.now sides) (unit_at unit.now sides) marks.old queue.old (step_of head input.0) tail }
-    requires head_lt_tail { (head < tail) × (tail ≤ pairs) × (input.0 < sides.inputs) }
-    ensures { ProgressOf sides.inputs (golden_at dossier.now sides) (unit_at unit.now sides) marks.new queue.new head (step_of head (input.0 + 1)) result }
+) -> ControlFlow<Input, usize>
+    requires searched { Searched sides.now.golden.inputs (machine_in sides.now.golden) (machine_in sides.now.unit) marks.old queue.old (step_of head input.0) tail }
+    requires head_lt_tail { (head < tail) × (tail ≤ pairs) × (input.0 < sides.now.golden.inputs) }
+    ensures { ProgressOf sides.now.golden.inputs (machine_in sides.now.golden) (machine_in sides.now.unit) marks.new queue.new head (step_of head (input.0 + 1)) result }
 {
-    match look(dossier, unit, sides, pair_at(queue, head), input) {
-        Seen::Apart => Progress::Told(input),
-        Seen::Next(pair) => Progress::Upto(put(marks, queue, tail, pair, head, input)),
+    match look(sides, pair_at(queue, head), input) {
+        None => ControlFlow::Break(input),
+        Some(pair) => ControlFlow::Continue(put(marks, queue, tail, pair, head, input)),
     }
 }
 
 // Tries every input at an entry of the queue.
 fn try_entry(
-    dossier: &[u8],
-    unit: &[u8],
-    sides: Sides,
-    marks: &mut [u8],
-    queue: &mut [u32],
+    sides: &Sides<'_>,
+    marks: &mut [u8; 4096],
+    queue: &mut [u32; 4096],
     head: usize,
     tail: usize,
-) -> Progress
-    requires sides_at { SidesAt dossier.now unit.now sides }
-    requires searched { Searched sides.inputs (golden_at dossier.now sides) (unit_at unit.now sides) marks.old queue.old (step_of head 0) tail }
+) -> ControlFlow<Input, usize>
+    requires searched { Searched sides.now.golden.inputs (machine_in sides.now.golden) (machine_in sides.now.unit) marks.old queue.old (step_of head 0) tail }
     requires head_lt_tail { (head < tail) × (tail ≤ pairs) }
-    ensures { ProgressOf sides.inputs (golden_at dossier.now sides) (unit_at unit.now sides) marks.new queue.new head (step_of (head + 1) 0) result }
+    ensures { ProgressOf sides.now.golden.inputs (machine_in sides.now.golden) (machine_in sides.now.unit) marks.new queue.new head (step_of (head + 1) 0) result }
 {
-    let inputs = sides.inputs;
     let mut last = tail;
-    let mut i = 0;
-    while i < inputs {
-        let input = Input::numbered(i);
-        match try_input(dossier, unit, sides, marks, queue, head, last, input) {
-            Progress::Told(last_input) => {
-                return Progress::Told(last_input);
-            }
-            Progress::Upto(end) => {
-                last = end;
-            }
-        }
-        i += 1;
+    for i in 0..sides.golden.inputs {
+        last = try_input(sides, marks, queue, head, last, Input::numbered(i))?;
     }
-    Progress::Upto(last)
+    ControlFlow::Continue(last)
 }
 
 // The first entry and input that tell golden and unit apart. The queue starts with the pair of the states 0, whose number is 0 and
 // which no step leads to.
-pub fn search(dossier: &[u8], unit: &[u8], sides: Sides, queue: &mut [u32]) -> Found
-    requires sides_at { SidesAt dossier.now unit.now sides }
-    requires queue_len { length queue.old ≡ pairs }
-    ensures { FoundOf sides.inputs (golden_at dossier.now sides) (unit_at unit.now sides) queue.new result }
+pub fn search(sides: &Sides<'_>, queue: &mut [u32; 4096]) -> Option<(usize, Input)>
+    ensures { FoundOf sides.now.golden.inputs (machine_in sides.now.golden) (machine_in sides.now.unit) queue.new result }
 {
     let mut marks = no_marks();
     meet(&mut marks, 0);
     queue[0] = 0;
     let mut head = 0;
     let mut tail = 1;
+    // The queue grows while it is gone through.
     while head < tail {
-        match try_entry(dossier, unit, sides, &mut marks, queue, head, tail) {
-            Progress::Told(input) => {
-                return Found::At(head, input);
+        match try_entry(sides, &mut marks, queue, head, tail) {
+            ControlFlow::Break(input) => {
+                return Some((head, input));
             }
-            Progress::Upto(end) => {
+            ControlFlow::Continue(end) => {
                 tail = end;
             }
         }
         head += 1;
     }
-    Found::Nowhere
+    None
 }

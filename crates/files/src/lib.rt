@@ -24,14 +24,15 @@ pub fn open_read<R: Files>(rt: &R, name: &[u8]) -> Option<R::File> {
     fs::open(rt, text).ok()
 }
 
-// The file of that name, to be written: made where it is missing, and emptied where it is not.
+// The file of that name, to be written: made where it is missing, and emptied where it is not. One function that is passed the library's
+// call would be longer than both.
 pub fn open_overwrite<R: Files>(rt: &R, name: &[u8]) -> Option<R::File> {
     let text = str::from_utf8(name).ok()?;
     fs::create(rt, text).ok()
 }
 
 // Reads until buf is full, the file ends or a read fails, and returns how many bytes it put at the start of buf: the first
-// that the file had left.
+// that the file had left. How far a read gets is the file's to say, so no range counts the turns.
 pub fn read_full<F: Read>(file: &mut F, buf: &mut [u8]) -> usize
     ensures within { IsPrefixLen result buf.new }
     ensures bytes { Consumes (F.remaining file.old) (F.remaining file.new) (take result buf.new) }

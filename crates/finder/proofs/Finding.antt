@@ -25,19 +25,12 @@ use Rattle.theory.specs.Lists.{outcome}
 use Rattle.theory.specs.Sized.{bytes_of}
 use Rattle.theory.specs.FoundSize.{find_never_over}
 use Rattle.reader.specs.declared.UnitShape.{UnitShape}
-use Rattle.reader.specs.declared.UnitRead.{UnitRead}
-use Rattle.reader.specs.declared.UnitRead.TheVariants.{Holds as UnitHolds, Refused as UnitRefused}
+use Rattle.std.specs.Prelude.{Option as Found, Some, None, Result, Ok, Err}
 use Rattle.reader.specs.Shapes.{unit_read}
 use Rattle.reader.specs.Standing.{unit_in}
 use Rattle.reader.proofs.Held.{unit_held, unit_not_held}
-use Rattle.soundness_reach.specs.declared.StateFound.{StateFound}
-use Rattle.soundness_reach.specs.declared.StateFound.TheVariants.{At as State, Nowhere as NoState}
 use Rattle.soundness_reach.specs.Reached.{state_found}
-use Rattle.soundness_apart.specs.declared.PairFound.{PairFound}
-use Rattle.soundness_apart.specs.declared.PairFound.TheVariants.{At as Pair, Nowhere as NoPair}
 use Rattle.soundness_apart.specs.Separating.{pair_found}
-use Rattle.soundness.specs.declared.Finding.{Finding}
-use Rattle.soundness.specs.declared.Finding.TheVariants.{Fine, Refused as FindingRefused}
 use Rattle.soundness.specs.Lent.{finding_of}
 use Rattle.finder_access.specs.Reached.{Marks, Reaches, reaches_held}
 use Rattle.finder_distances.specs.Rounds.{DistancesAt}
@@ -47,12 +40,12 @@ use Rattle.finder_telling.proofs.Lowest.{none-untold}
 use Rattle.finder.specs.Drafts.{reduced, draft_bytes, Given, Bounded, Reduced}
 
 -- what the reader answered
-module _ (s : List ℕ) (r : UnitRead) (read : r ≡ unit_read (read_unit s)) where
-  pub malformed : (m : ℕ) (out : List ℕ) (f : Refusal) → r ≡ UnitRefused f → FindPromise s m out (Refused f) out
+module _ (s : List ℕ) (r : Result UnitShape Refusal) (read : r ≡ unit_read (read_unit s)) where
+  pub malformed : (m : ℕ) (out : List ℕ) (f : Refusal) → r ≡ Err f → FindPromise s m out (Refused f) out
   unfolding find
   malformed m out f is = rw (unit_not_held s r f read is) (refl, refl)
 
-  pub given : (x : UnitShape) → r ≡ UnitHolds x → ((i : ℕ) → get_or s i 0 < 256) → Given s x
+  pub given : (x : UnitShape) → r ≡ Ok x → ((i : ℕ) → get_or s i 0 < 256) → Given s x
   given x is each =
       let (u, reads, stands) = unit_held s r x read is in
       record { held = u; reads = reads; stands = stands; are_bytes = bytes_of s each }
@@ -70,38 +63,39 @@ module _ {s : List ℕ} {x : UnitShape} (unit : Given s x) (m : ℕ) (b : Bool) 
   bounded is = record { given = unit; good = sym good_is ∙ not-false b is }
 
 -- 8 comes before 18.
-module _ (state : StateFound) (pair : PairFound) (q : Option ℕ) (a : Option (ℕ × ℕ)) (lowest : state ≡ state_found q) (two : pair ≡ pair_found a) where
-  no_state : state ≡ NoState → q ≡ none
+module _ (state : Found GoldenState) (pair : Found (GoldenState × GoldenState)) (q : Option ℕ) (a : Option (ℕ × ℕ)) (lowest : state ≡ state_found q) (two : pair ≡ pair_found a) where
+  no_state : state ≡ None → q ≡ none
   no_state is = go q refl
     where
       go : (o : Option ℕ) → q ≡ o → q ≡ none
       go none e = e
-      go (some n) e = let f : NoState ≡ State (golden_state n) = sym is ∙ lowest ∙ rw e in let z : ◌≡◌ {A = ℕ} 0 1 = cc in absurd (omega arith)
+      go (some n) e = let f : None ≡ Some (golden_state n) = sym is ∙ lowest ∙ rw e in let z : ◌≡◌ {A = ℕ} 0 1 = cc in absurd (omega arith)
 
-  pub state_first : (g : GoldenState) → state ≡ State g → FindingRefused (Unreached UnitFile g) ≡ finding_of (reduced q a)
+  pub state_first : (g : GoldenState) → state ≡ Some g → Err (Unreached UnitFile g) ≡ finding_of (reduced q a)
   state_first g is = go q refl
     where
-      go : (o : Option ℕ) → q ≡ o → FindingRefused (Unreached UnitFile g) ≡ finding_of (reduced q a)
-      go none e = let f : State g ≡ NoState = sym is ∙ lowest ∙ rw e in let z : ◌≡◌ {A = ℕ} 0 1 = cc in absurd (omega arith)
-      go (some n) e = let f : State g ≡ State (golden_state n) = sym is ∙ lowest ∙ rw e in let same : g ≡ golden_state n = cc in rw (e, same)
+      go : (o : Option ℕ) → q ≡ o → Err (Unreached UnitFile g) ≡ finding_of (reduced q a)
+      go none e = let f : Some g ≡ None = sym is ∙ lowest ∙ rw e in let z : ◌≡◌ {A = ℕ} 0 1 = cc in absurd (omega arith)
+      go (some n) e = let f : Some g ≡ Some (golden_state n) = sym is ∙ lowest ∙ rw e in let same : g ≡ golden_state n = cc in rw (e, same)
 
-  pub pair_second : state ≡ NoState → (g h : GoldenState) → pair ≡ Pair g h → FindingRefused (NotReduced g h) ≡ finding_of (reduced q a)
+  pub pair_second : state ≡ None → (g h : GoldenState) → pair ≡ Some (g, h) → Err (NotReduced g h) ≡ finding_of (reduced q a)
   pair_second none_is g h is = go a refl
     where
-      go : (o : Option (ℕ × ℕ)) → a ≡ o → FindingRefused (NotReduced g h) ≡ finding_of (reduced q a)
-      go none e = let f : Pair g h ≡ NoPair = sym is ∙ two ∙ rw e in let z : ◌≡◌ {A = ℕ} 0 1 = cc in absurd (omega arith)
+      go : (o : Option (ℕ × ℕ)) → a ≡ o → Err (NotReduced g h) ≡ finding_of (reduced q a)
+      go none e = let f : Some (g, h) ≡ None = sym is ∙ two ∙ rw e in let z : ◌≡◌ {A = ℕ} 0 1 = cc in absurd (omega arith)
       go (some (n, l)) e =
-          let f : Pair g h ≡ Pair (golden_state n) (golden_state l) = sym is ∙ two ∙ rw e in
-          let one : g ≡ golden_state n = cc in
-          let other : h ≡ golden_state l = cc in
+          let f : Some (g, h) ≡ Some (golden_state n, golden_state l) = sym is ∙ two ∙ rw e in
+          let both : (g, h) ≡ (golden_state n, golden_state l) = cc in
+          let one : g ≡ golden_state n = ap (λ (x : GoldenState × GoldenState). x.0) both in
+          let other : h ≡ golden_state l = ap (λ (x : GoldenState × GoldenState). x.1) both in
           rw (no_state none_is, e, one, other)
 
-  pub neither : state ≡ NoState → pair ≡ NoPair → Fine ≡ finding_of (reduced q a)
+  pub neither : state ≡ None → pair ≡ None → Ok tt ≡ finding_of (reduced q a)
   neither none_is is = go a refl
     where
-      go : (o : Option (ℕ × ℕ)) → a ≡ o → Fine ≡ finding_of (reduced q a)
+      go : (o : Option (ℕ × ℕ)) → a ≡ o → Ok tt ≡ finding_of (reduced q a)
       go none e = rw (no_state none_is, e)
-      go (some (n, l)) e = let f : NoPair ≡ Pair (golden_state n) (golden_state l) = sym is ∙ two ∙ rw e in let z : ◌≡◌ {A = ℕ} 0 1 = cc in absurd (omega arith)
+      go (some (n, l)) e = let f : None ≡ Some (golden_state n, golden_state l) = sym is ∙ two ∙ rw e in let z : ◌≡◌ {A = ℕ} 0 1 = cc in absurd (omega arith)
 
 -- 8 and 18
 module _ {s : List ℕ} {x : UnitShape} {m : ℕ} (b : Bounded s x m) where
@@ -112,7 +106,7 @@ module _ {s : List ℕ} {x : UnitShape} {m : ℕ} (b : Bounded s x m) where
     held_reaches : Reaches u queue places
     held_reaches = reaches_held b.given.stands reaches
 
-    module _ (state : StateFound) (pair : PairFound) (r : Finding)
+    module _ (state : Found GoldenState) (pair : Found (GoldenState × GoldenState)) (r : Result (Unit {0}) Refusal)
         (lowest : (u : UnitData) → Marks u places → u.states ≡ x.states → state ≡ state_found (unreachable u))
         (two : pair ≡ pair_found (lowest_untold x.states distances))
         (first : (q : Option ℕ) (a : Option (ℕ × ℕ)) → state ≡ state_found q → pair ≡ pair_found a → r ≡ finding_of (reduced q a)) where
@@ -121,35 +115,35 @@ module _ {s : List ℕ} {x : UnitShape} {m : ℕ} (b : Bounded s x m) where
           first (unreachable u) (untold u) (lowest u held_reaches.marks (sym b.given.stands.states))
           (two ∙ ap (λ a. pair_found a) (lowest_untold_lem s x u b.given.stands distances at))
 
-      pub fault_refuses : (f : Refusal) → r ≡ FindingRefused f → (out : List ℕ) → FindPromise s m out (Refused f) out
+      pub fault_refuses : (f : Refusal) → r ≡ Err f → (out : List ℕ) → FindPromise s m out (Refused f) out
       unfolding find
       fault_refuses f is out = go (unreachable u) refl (untold u) refl
         where
           go : (q : Option ℕ) → unreachable u ≡ q → (a : Option (ℕ × ℕ)) → untold u ≡ a → FindPromise s m out (Refused f) out
           go none reach none tell =
-              let e : FindingRefused f ≡ Fine = sym is ∙ fault_is ∙ rw (reach, tell) in
+              let e : Err f ≡ Ok tt = sym is ∙ fault_is ∙ rw (reach, tell) in
               let z : ◌≡◌ {A = ℕ} 0 1 = cc in
               absurd (omega arith)
           go none reach (some (p, q)) tell =
-              let e : FindingRefused f ≡ FindingRefused (NotReduced (golden_state p) (golden_state q)) = sym is ∙ fault_is ∙ rw (reach, tell) in
+              let e : Err f ≡ Err (NotReduced (golden_state p) (golden_state q)) = sym is ∙ fault_is ∙ rw (reach, tell) in
               let same : f ≡ NotReduced (golden_state p) (golden_state q) = cc in
               rw (b.given.reads, b.good, reach, tell, same) (refl, refl)
           go (some q) reach a tell =
-              let e : FindingRefused f ≡ FindingRefused (Unreached UnitFile (golden_state q)) = sym is ∙ fault_is ∙ rw reach in
+              let e : Err f ≡ Err (Unreached UnitFile (golden_state q)) = sym is ∙ fault_is ∙ rw reach in
               let same : f ≡ Unreached UnitFile (golden_state q) = cc in
               rw (b.given.reads, b.good, reach, same) (refl, refl)
 
-      pub fault_none : r ≡ Fine → Reduced s x m queue places distances
+      pub fault_none : r ≡ Ok tt → Reduced s x m queue places distances
       fault_none is = go (unreachable u) refl (untold u) refl
         where
           go : (q : Option ℕ) → unreachable u ≡ q → (a : Option (ℕ × ℕ)) → untold u ≡ a → Reduced s x m queue places distances
           go none reach none tell = record { bounded = b; reaches = held_reaches; apart = at; reachable = reach; tellable = tell }
           go none reach (some (p, q)) tell =
-              let e : Fine ≡ FindingRefused (NotReduced (golden_state p) (golden_state q)) = sym is ∙ fault_is ∙ rw (reach, tell) in
+              let e : Ok tt ≡ Err (NotReduced (golden_state p) (golden_state q)) = sym is ∙ fault_is ∙ rw (reach, tell) in
               let z : ◌≡◌ {A = ℕ} 0 1 = cc in
               absurd (omega arith)
           go (some q) reach a tell =
-              let e : Fine ≡ FindingRefused (Unreached UnitFile (golden_state q)) = sym is ∙ fault_is ∙ rw reach in
+              let e : Ok tt ≡ Err (Unreached UnitFile (golden_state q)) = sym is ∙ fault_is ∙ rw reach in
               let z : ◌≡◌ {A = ℕ} 0 1 = cc in
               absurd (omega arith)
 
@@ -157,7 +151,7 @@ module _ {s : List ℕ} {x : UnitShape} {m : ℕ} (b : Bounded s x m) where
 module _ {s : List ℕ} {x : UnitShape} {m : ℕ} {queue places distances : List ℕ} (red : Reduced s x m queue places distances) where
   pub all_told : AllTold x.states distances
   all_told =
-      none-untold x.states distances NoPair
+      none-untold x.states distances None
       (rw (lowest_untold_lem s x red.bounded.given.held red.bounded.given.stands distances red.apart, red.tellable)) refl
 
   abbrev v : UnitData

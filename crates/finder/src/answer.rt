@@ -9,9 +9,9 @@ use finder_distances::{find_distances, no_distances};
 use finder_separators::{find_separators, place_room, separators_size};
 use finder_spelling::text_room;
 use finder_telling::lowest_untold;
-use reader::{UnitRead, UnitShape, bound_in_range, read_unit};
+use finder_unit::GoldenUnit;
+use reader::{UnitShape, bound_in_range, read_unit};
 use rules::{Fault, File, Found, Refusal};
-use soundness::Finding;
 
 // What a dossier has around its table and its words, more than a unit has: the byte for m and three counts.
 const MORE_THAN_A_UNIT: usize = 7;
@@ -43,21 +43,30 @@ fn find_room(
 
 // The words of a unit that none of 1 to 18 refuses.
 fn find_words(
-    unit: &[u8],
-    x: UnitShape,
+    golden: &GoldenUnit<'_>,
     bound: u8,
     queue: &[u16],
     places: &[u8],
-    distances: &[u8],
+    distances: &[u8; 4096],
     out: &mut [u8],
 ) -> Found
-    requires { Reduced unit.now x bound queue.now places.now distances.now }
-    ensures { FindPromise unit.now bound out.old result out.new }
+    requires { Reduced golden.now.bytes.now golden.now.shape bound queue.now places.now distances.now }
+    ensures { FindPromise golden.now.bytes.now bound out.old result out.new }
 {
     let mut text = text_room();
     let mut kept = place_room();
-    let count = find_separators(unit, x, distances, &mut text, &mut kept);
-    find_room(unit, x, bound, queue, places, &text, &kept, count, out)
+    let count = find_separators(golden, distances, &mut text, &mut kept);
+    find_room(
+        golden.bytes,
+        golden.shape,
+        bound,
+        queue,
+        places,
+        &text,
+        &kept,
+        count,
+        out,
+    )
 }
 
 // Of a unit and a bound that are good: which states can be reached, and which can be told apart.
@@ -65,17 +74,20 @@ fn find_bounded(unit: &[u8], x: UnitShape, bound: u8, out: &mut [u8]) -> Found
     requires { Bounded unit.now x bound }
     ensures { FindPromise unit.now bound out.old result out.new }
 {
-    let states = x.states;
+    let golden = GoldenUnit {
+        bytes: unit,
+        shape: x,
+    };
     let mut queue = no_entries();
     let mut places = no_places();
     let mut distances = no_distances();
-    reach_states(unit, x, &mut queue, &mut places);
-    find_distances(unit, x, &mut distances);
-    let state = unreached(&places, states);
-    let pair = lowest_untold(&distances, states);
+    reach_states(&golden, &mut queue, &mut places);
+    find_distances(&golden, &mut distances);
+    let state = unreached(&places, x.states);
+    let pair = lowest_untold(&distances, x.states);
     match first_fault(state, pair) {
-        Finding::Fine => find_words(unit, x, bound, &queue, &places, &distances, out),
-        Finding::Refused(r) => Found::Refused(r),
+        Ok(()) => find_words(&golden, bound, &queue, &places, &distances, out),
+        Err(r) => Found::Refused(r),
     }
 }
 
@@ -94,7 +106,7 @@ pub fn find(unit: &[u8], bound: u8, out: &mut [u8]) -> Found
     ensures { FindPromise unit.now bound out.old result out.new }
 {
     match read_unit(unit) {
-        UnitRead::Holds(x) => find_given(unit, x, bound, out),
-        UnitRead::Refused(r) => Found::Refused(r),
+        Ok(x) => find_given(unit, x, bound, out),
+        Err(r) => Found::Refused(r),
     }
 }

@@ -6,20 +6,20 @@ ghost use Rattle.soundness_apart.specs.Separating.{pair_found};
 ghost use Rattle.soundness.specs.Lent.{finding_of};
 ghost use Rattle.finder.specs.Drafts.{reduced};
 
-use rules::{File, Refusal};
-use soundness::Finding;
-use soundness_apart::PairFound;
-use soundness_reach::StateFound;
+use rules::{File, GoldenState, Refusal};
 
 // The state that no word leads to, and else the two that no word tells apart.
-pub fn first_fault(state: StateFound, pair: PairFound) -> Finding
+pub fn first_fault(
+    state: Option<GoldenState>,
+    pair: Option<(GoldenState, GoldenState)>,
+) -> Result<(), Refusal>
     ensures { (q : Option ℕ) (a : Option (ℕ × ℕ)) → state ≡ state_found q → pair ≡ pair_found a → result ≡ finding_of (reduced q a) }
 {
     match state {
-        StateFound::At(q) => Finding::Refused(Refusal::Unreached(File::Unit, q)),
-        StateFound::Nowhere => match pair {
-            PairFound::At(p, q) => Finding::Refused(Refusal::NotReduced(p, q)),
-            PairFound::Nowhere => Finding::Fine,
+        Some(q) => Err(Refusal::Unreached(File::Unit, q)),
+        None => match pair {
+            Some((p, q)) => Err(Refusal::NotReduced(p, q)),
+            None => Ok(()),
         },
     }
 }

@@ -16,10 +16,8 @@ pub fn measure_cover(queue: &[u16], places: &[u8], states: u8) -> usize
     ensures { ((u : UnitData) → Reaches u queue.now places.now → u.states ≡ states → result ≡ length (flat_map word_bytes (found_cover u))) × (result ≤ most_states * most_states) }
 {
     let mut n = 0;
-    let mut q = 0;
-    while q < states {
+    for q in 0..states {
         n = n + 1 + access_length(queue, places, GoldenState::numbered(q));
-        q += 1;
     }
     n
 }
@@ -30,10 +28,8 @@ pub fn write_cover(queue: &[u16], places: &[u8], states: u8, out: &mut [u8], at:
     ensures { (u : UnitData) → Reaches u queue.now places.now → u.states ≡ states → Wrote out.old at (flat_map word_bytes (found_cover u)) out.new result }
 {
     let mut next = at;
-    let mut q = 0;
-    while q < states {
+    for q in 0..states {
         next = write_access(queue, places, GoldenState::numbered(q), out, next);
-        q += 1;
     }
     next
 }

@@ -1,5 +1,5 @@
-// The queue of the states that have been met, and the places of the states in it. An entry is one number, since a slice of structs
-// cannot be lent: the entry that it was met from, the input, and the state.
+// The queue of the states that have been met, and the places of the states in it. An entry is one number: the entry
+// that it was met from, the input, and the state. What it says is divided out (`specs/Queue.antt`), and the search's laws order steps by it.
 ghost use Rattle.std.specs.Prelude.{◌≡◌, ◌-◌, ◌<◌, length, get_or};
 ghost use Rattle.rules.specs.Sizes.{most_inputs, most_states};
 ghost use Rattle.theory.specs.Breadth.{step_of};
@@ -59,9 +59,5 @@ pub fn place_of(places: &[u8], state: GoldenState) -> usize
     requires { state.0 < length places.now }
     ensures { result ≡ get_or places.now state.0 0 - 1 }
 {
-    let after = wide(places[wide(state.number())]);
-    if after == 0 {
-        return 0;
-    }
-    after - 1
+    wide(places[wide(state.number())]).saturating_sub(1)
 }

@@ -7,17 +7,15 @@ ghost use Rattle.rules.specs.Files.{UnitData};
 ghost use Rattle.rules.specs.Find.{unreachable};
 ghost use Rattle.theory.specs.Breadth.{step_of};
 ghost use Rattle.soundness_reach.specs.Reached.{state_found};
-ghost use Rattle.reader.specs.Standing.{unit_in, UnitAt};
+ghost use Rattle.reader.specs.Standing.{unit_in};
 ghost use Rattle.finder_access.specs.Queue.{unplaced};
 ghost use Rattle.finder_access.specs.Search.{Searching, PutOf};
 ghost use Rattle.finder_access.specs.Reached.{reached_states, Marks, Reaches};
 
 use crate::queue::{entry, state_at};
+use finder_unit::GoldenUnit;
 use numbers::wide;
-use reader::UnitShape;
 use rules::{GoldenState, Input};
-use soundness_reach::StateFound;
-use walker::golden_next;
 
 // Queues a state, unless it was met before. The answer is how many entries the queue has then.
 fn put(
@@ -44,78 +42,69 @@ fn put(
 
 // Tries one input at an entry of the queue.
 fn try_input(
-    unit: &[u8],
-    x: UnitShape,
+    unit: &GoldenUnit<'_>,
     queue: &mut [u16],
     places: &mut [u8],
     head: usize,
     tail: usize,
     input: Input,
 ) -> usize
-    requires unit_at { UnitAt unit.now x }
-    requires searching { Searching (unit_in unit.now x) queue.old places.old (step_of head input.0) tail }
-    requires head_lt_tail { (head < tail) × (input.0 < x.inputs) }
-    ensures { Searching (unit_in unit.now x) queue.new places.new (step_of head (input.0 + 1)) result × (head < result) }
+    requires searching { Searching (unit_in unit.now.bytes.now unit.now.shape) queue.old places.old (step_of head input.0) tail }
+    requires head_lt_tail { (head < tail) × (input.0 < unit.now.shape.inputs) }
+    ensures { Searching (unit_in unit.now.bytes.now unit.now.shape) queue.new places.new (step_of head (input.0 + 1)) result × (head < result) }
 {
-    let state = state_at(queue, head);
-    let next = golden_next(unit, x.table, x.inputs, x.states, state, input);
+    let table = unit.table();
+    let next = table.next(state_at(queue, head), input);
     put(queue, places, tail, next, head, input)
 }
 
 // Tries every input at an entry of the queue, from 0 on.
 fn try_entry(
-    unit: &[u8],
-    x: UnitShape,
+    unit: &GoldenUnit<'_>,
     queue: &mut [u16],
     places: &mut [u8],
     head: usize,
     tail: usize,
 ) -> usize
-    requires unit_at { UnitAt unit.now x }
-    requires searching { Searching (unit_in unit.now x) queue.old places.old (step_of head 0) tail }
+    requires searching { Searching (unit_in unit.now.bytes.now unit.now.shape) queue.old places.old (step_of head 0) tail }
     requires head_lt_tail { head < tail }
-    ensures { Searching (unit_in unit.now x) queue.new places.new (step_of (head + 1) 0) result × (head < result) }
+    ensures { Searching (unit_in unit.now.bytes.now unit.now.shape) queue.new places.new (step_of (head + 1) 0) result × (head < result) }
 {
-    let inputs = x.inputs;
     let mut last = tail;
-    let mut left = inputs;
-    while 0 < left {
-        let input = Input::numbered(inputs - left);
-        last = try_input(unit, x, queue, places, head, last, input);
-        left -= 1;
+    for i in 0..unit.shape.inputs {
+        let input = Input::numbered(i);
+        last = try_input(unit, queue, places, head, last, input);
     }
     last
 }
 
 // Meets every state that can be reached; how many there are. The queue starts with the state 0, whose number is 0 and which no step
 // leads to.
-pub fn reach_states(unit: &[u8], x: UnitShape, queue: &mut [u16], places: &mut [u8]) -> usize
-    requires unit_at { UnitAt unit.now x }
+pub fn reach_states(unit: &GoldenUnit<'_>, queue: &mut [u16], places: &mut [u8]) -> usize
     requires queue_len { (length queue.old ≡ most_states) × (places.old ≡ unplaced) }
-    ensures { Reaches (unit_in unit.now x) queue.new places.new × (result ≡ length (reached_states (unit_in unit.now x))) }
+    ensures { Reaches (unit_in unit.now.bytes.now unit.now.shape) queue.new places.new × (result ≡ length (reached_states (unit_in unit.now.bytes.now unit.now.shape))) }
 {
     queue[0] = 0;
     places[0] = 1;
     let mut head = 0;
     let mut tail = 1;
+    // The queue grows while it is gone through.
     while head < tail {
-        tail = try_entry(unit, x, queue, places, head, tail);
+        tail = try_entry(unit, queue, places, head, tail);
         head += 1;
     }
     tail
 }
 
 // The lowest state that was not met.
-pub fn unreached(places: &[u8], states: u8) -> StateFound
+pub fn unreached(places: &[u8], states: u8) -> Option<GoldenState>
     requires { (length places.now ≡ most_states) × (states ≤ most_states) }
     ensures { (u : UnitData) → Marks u places.now → u.states ≡ states → result ≡ state_found (unreachable u) }
 {
-    let mut q = 0;
-    while q < states {
+    for q in 0..states {
         if places[wide(q)] == 0 {
-            return StateFound::At(GoldenState::numbered(q));
+            return Some(GoldenState::numbered(q));
         }
-        q += 1;
     }
-    StateFound::Nowhere
+    None
 }

@@ -19,6 +19,7 @@ fn word_length(queue: &[u16], place: usize) -> usize
 {
     let mut at = place;
     let mut n = 0;
+    // Each entry leads to the one that it was met from.
     while 0 < at {
         at = parent_at(queue, at);
         n += 1;

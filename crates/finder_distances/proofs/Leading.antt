@@ -10,7 +10,7 @@ use borrow.Author.Tests.{eq-eqb, ne_eqb}
 use Rattle.rules.specs.Lists.{first, numbers, numbers_from}
 use Rattle.rules.specs.Machines.{Machine}
 use Rattle.rules.specs.declared.Input.{Input}
-use Rattle.finder_distances.specs.declared.Lead.TheVariants.{By, Nowhere}
+use Rattle.std.specs.Prelude.{Some, None}
 use Rattle.finder_distances.specs.Leads.{differs, nears, leads, lead_of}
 use Rattle.finder_distances.specs.Marks.{mark_of}
 
@@ -22,7 +22,7 @@ module _ (test : ℕ → Bool) (k : ℕ) where
   pub lead_start : first test (numbers k) ≡ from 0
   lead_start = let same : k - 0 ≡ k = omega arith in rw same
 
-  pub lead_by : (i : ℕ) (input : Input) → first test (numbers k) ≡ from i → i < k → input.0 ≡ i → test input.0 ≡ true → By input ≡ lead_of (first test (numbers k))
+  pub lead_by : (i : ℕ) (input : Input) → first test (numbers k) ≡ from i → i < k → input.0 ≡ i → test input.0 ≡ true → Some input ≡ lead_of (first test (numbers k))
   lead_by i input so_far less is passes =
       let more : k - i ≡ suc (k - suc i) = omega arith in
       let here : test i ≡ true = rw is at passes in
@@ -34,7 +34,7 @@ module _ (test : ℕ → Bool) (k : ℕ) where
       let here : test i ≡ false = rw is at fails in
       so_far ∙ rw (more, here, ← add-one i)
 
-  pub lead_nowhere : (i : ℕ) → first test (numbers k) ≡ from i → k ≤ i → Nowhere ≡ lead_of (first test (numbers k))
+  pub lead_nowhere : (i : ℕ) → first test (numbers k) ≡ from i → k ≤ i → None ≡ lead_of (first test (numbers k))
   lead_nowhere i so_far over = let done : k - i ≡ 0 = omega arith in rw (so_far, done)
 
 -- whether the entry of the next states is d

@@ -18,8 +18,7 @@ use Rattle.walker.proofs.Tables.{machine_complete}
 use Rattle.theory.specs.Lists.{OneWay, first-none, first_least, in_numbers, of_numbers, numbers_rising}
 use Rattle.theory.specs.Classes.{ToldWithin}
 use Rattle.theory.specs.Distances.{Marked, told_output, outputs_alike, marked_start, marked_stays, marked_new, marked_none, marked_swap, marked_same, round_told, round_untold, marked_still}
-use Rattle.finder_distances.specs.declared.Lead.{Lead}
-use Rattle.finder_distances.specs.declared.Lead.TheVariants.{By, Nowhere}
+use Rattle.std.specs.Prelude.{Option as Found, Some, None}
 use Rattle.finder_distances.specs.Marks.{place_of, unmarked, mark_of, with_mark}
 use Rattle.reader.specs.Standing.{UnitAt}
 use Rattle.finder_distances.specs.Leads.{machine_of_unit, differs, nears, leads, lead_of}
@@ -34,12 +33,12 @@ unit_whole s x at = machine_complete s x.table x.inputs x.states at.table
 numbers_one_way : OneWay ◌<◌
 numbers_one_way p q a b = omega arith
 
-pub lead_some : (test : ℕ → Bool) (k : ℕ) (r : Lead) (i : Input) → r ≡ lead_of (first test (numbers k)) → r ≡ By i → first test (numbers k) ≡ some i.0
+pub lead_some : (test : ℕ → Bool) (k : ℕ) (r : Found Input) (i : Input) → r ≡ lead_of (first test (numbers k)) → r ≡ Some i → first test (numbers k) ≡ some i.0
 lead_some test k r i e is = go (first test (numbers k)) refl
   where
     go : (o : Option ℕ) → first test (numbers k) ≡ o → first test (numbers k) ≡ some i.0
     go none f = let z : ◌≡◌ {A = ℕ} 0 1 = cc (rw f at e) in absurd (omega arith)
-    go (some j) f = let same : By (record { 0 = j }) ≡ By i = sym (rw f at e) ∙ is in f ∙ ap (λ (y : Input). some y.0) (cc)
+    go (some j) f = let same : Some (record { 0 = j }) ≡ Some i = sym (rw f at e) ∙ is in f ∙ ap (λ (y : Input). some y.0) (cc)
 
 pub lead_found : (test : ℕ → Bool) (k i : ℕ) → first test (numbers k) ≡ some i → (i < k) × (test i ≡ true) × ((j : ℕ) → j < i → test j ≡ false)
 lead_found test k i e =
@@ -47,7 +46,7 @@ lead_found test k i e =
     let (low, high) = of_numbers 0 k least.found in
     (omega arith, least.passes, λ j less. least.earlier j (in_numbers 0 k j (omega arith) (omega arith)) less)
 
-pub lead_none : (test : ℕ → Bool) (k : ℕ) (r : Lead) → r ≡ lead_of (first test (numbers k)) → r ≡ Nowhere → (i : ℕ) → i < k → test i ≡ false
+pub lead_none : (test : ℕ → Bool) (k : ℕ) (r : Found Input) → r ≡ lead_of (first test (numbers k)) → r ≡ None → (i : ℕ) → i < k → test i ≡ false
 lead_none test k r e is i less = first-none test (go (first test (numbers k)) refl) (in_numbers 0 k i (omega arith) (omega arith))
   where
     go : (o : Option ℕ) → first test (numbers k) ≡ o → first test (numbers k) ≡ none
@@ -198,11 +197,11 @@ module _ (k : ℕ) (M : Machine) (complete : Complete k M) (few : M.states ≤ m
       pub known_pair : d ≢ 0 → Midway k M r (place_of p (q + 1)) changed m
       known_pair some' = pair_known (λ e. some' (asked ∙ e))
 
-      module _ (empty : d ≡ 0) (found : Lead) (search : found ≡ lead_of (first (leads M m r p q) (numbers k))) where
-        pub left_pair : found ≡ Nowhere → Midway k M r (place_of p (q + 1)) changed m
+      module _ (empty : d ≡ 0) (found : Found Input) (search : found ≡ lead_of (first (leads M m r p q) (numbers k))) where
+        pub left_pair : found ≡ None → Midway k M r (place_of p (q + 1)) changed m
         left_pair is = pair_left (sym asked ∙ empty) (lead_none (leads M m r p q) k found search is)
 
-        pub marked_pair : (i : Input) (new : List ℕ) → found ≡ By i → new ≡ with_mark m p q (r + 1) → Midway k M r (place_of p (q + 1)) true new
+        pub marked_pair : (i : Input) (new : List ℕ) → found ≡ Some i → new ≡ with_mark m p q (r + 1) → Midway k M r (place_of p (q + 1)) true new
         marked_pair i new is e =
             let (h, passes, lower) = lead_found (leads M m r p q) k i.0 (lead_some (leads M m r p q) k found i search is) in
             rw (e, add-one r) (pair_marked (sym asked ∙ empty) i.0 h passes)

@@ -10,11 +10,3 @@ mod rounds;
 pub use leads::find_lead;
 pub use marks::{distance_at, no_distances};
 pub use rounds::find_distances;
-use rules::Input;
-
-// The lowest input by which a word that tells two states apart can go on, if there is one.
-#[derive(Clone, Copy)]
-pub enum Lead {
-    By(Input),
-    Nowhere,
-}

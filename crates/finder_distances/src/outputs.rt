@@ -1,38 +1,14 @@
-// The lowest input to which two states give different outputs.
-ghost use Rattle.std.specs.Prelude.{◌≡◌, ◌<◌};
-ghost use Rattle.rules.specs.Lists.{first, numbers};
-ghost use Rattle.reader.specs.Standing.{UnitAt};
-ghost use Rattle.finder_distances.specs.Leads.{machine_of_unit, differs, lead_of};
-
-use crate::Lead;
-use reader::UnitShape;
-use rules::{GoldenState, Input};
-use walker::{golden_output, same_output};
-
 // Whether two states give different outputs to an input.
-fn outputs_differ(unit: &[u8], x: UnitShape, p: GoldenState, q: GoldenState, input: Input) -> bool
-    requires unit_at { UnitAt unit.now x }
-    requires p_lt_states { (p.0 < x.states) × (q.0 < x.states) × (input.0 < x.inputs) }
-    ensures { result ≡ differs (machine_of_unit unit.now x) p.0 q.0 input.0 }
-{
-    let one = golden_output(unit, x.table, x.inputs, x.states, p, input);
-    let other = golden_output(unit, x.table, x.inputs, x.states, q, input);
-    !same_output(one, other)
-}
+ghost use Rattle.std.specs.Prelude.{◌≡◌, ◌<◌};
+ghost use Rattle.finder_distances.specs.Leads.{machine_of_unit, differs};
 
-pub fn differing_input(unit: &[u8], x: UnitShape, p: GoldenState, q: GoldenState) -> Lead
-    requires unit_at { UnitAt unit.now x }
-    requires p_lt_states { (p.0 < x.states) × (q.0 < x.states) }
-    ensures { result ≡ lead_of (first (differs (machine_of_unit unit.now x) p.0 q.0) (numbers x.inputs)) }
+use finder_unit::GoldenUnit;
+use rules::{GoldenState, Input};
+
+pub fn outputs_differ(unit: &GoldenUnit<'_>, p: GoldenState, q: GoldenState, input: Input) -> bool
+    requires p_lt_states { (p.0 < unit.now.shape.states) × (q.0 < unit.now.shape.states) × (input.0 < unit.now.shape.inputs) }
+    ensures { result ≡ differs (machine_of_unit unit.now.bytes.now unit.now.shape) p.0 q.0 input.0 }
 {
-    let inputs = x.inputs;
-    let mut i = 0;
-    while i < inputs {
-        let input = Input::numbered(i);
-        if outputs_differ(unit, x, p, q, input) {
-            return Lead::By(input);
-        }
-        i += 1;
-    }
-    Lead::Nowhere
+    let table = unit.table();
+    table.output(p, input) != table.output(q, input)
 }

@@ -2,105 +2,81 @@
 // many inputs tells apart. An entry of this round is not one that the round looks for, so that the table is changed in place.
 ghost use Rattle.std.specs.Prelude.{◌≡◌, ◌+◌, ◌<◌, false};
 ghost use Rattle.finder_distances.specs.Marks.{place_of, unmarked};
-ghost use Rattle.reader.specs.Standing.{UnitAt};
 ghost use Rattle.finder_distances.specs.Leads.{machine_of_unit};
 ghost use Rattle.finder_distances.specs.Rounds.{Midway, DistancesAt};
 
-use crate::Lead;
 use crate::leads::find_lead;
 use crate::marks::{distance_at, set_distance};
-use reader::UnitShape;
+use finder_unit::GoldenUnit;
 use rules::GoldenState;
 
 // One pair in a round. The answer is whether the round has changed anything so far.
 fn mark_pair(
-    unit: &[u8],
-    x: UnitShape,
-    distances: &mut [u8],
+    unit: &GoldenUnit<'_>,
+    distances: &mut [u8; 4096],
     p: GoldenState,
     q: GoldenState,
     rounds: u8,
     changed: bool,
 ) -> bool
-    requires unit_at { UnitAt unit.now x }
-    requires p_lt_q { (p.0 < q.0) × (q.0 < x.states) × (rounds < x.states) }
-    requires midway { Midway x.inputs (machine_of_unit unit.now x) rounds (place_of p.0 q.0) changed distances.old }
-    ensures { Midway x.inputs (machine_of_unit unit.now x) rounds (place_of p.0 (q.0 + 1)) result distances.new }
+    requires p_lt_q { (p.0 < q.0) × (q.0 < unit.now.shape.states) × (rounds < unit.now.shape.states) }
+    requires midway { Midway unit.now.shape.inputs (machine_of_unit unit.now.bytes.now unit.now.shape) rounds (place_of p.0 q.0) changed distances.old }
+    ensures { Midway unit.now.shape.inputs (machine_of_unit unit.now.bytes.now unit.now.shape) rounds (place_of p.0 (q.0 + 1)) result distances.new }
 {
     if distance_at(distances, p, q) != 0 {
         return changed;
     }
-    match find_lead(unit, x, distances, p, q, rounds) {
-        Lead::By(_) => {
+    match find_lead(unit, distances, p, q, rounds) {
+        Some(_) => {
             set_distance(distances, p, q, rounds + 1);
             true
         }
-        Lead::Nowhere => changed,
+        None => changed,
     }
 }
 
 // The pairs of a state and those above it.
 fn mark_row(
-    unit: &[u8],
-    x: UnitShape,
-    distances: &mut [u8],
+    unit: &GoldenUnit<'_>,
+    distances: &mut [u8; 4096],
     p: GoldenState,
     rounds: u8,
     already: bool,
 ) -> bool
-    requires unit_at { UnitAt unit.now x }
-    requires p_lt_states { (p.0 < x.states) × (rounds < x.states) }
-    requires midway { Midway x.inputs (machine_of_unit unit.now x) rounds (place_of p.0 0) already distances.old }
-    ensures { Midway x.inputs (machine_of_unit unit.now x) rounds (place_of (p.0 + 1) 0) result distances.new }
+    requires p_lt_states { (p.0 < unit.now.shape.states) × (rounds < unit.now.shape.states) }
+    requires midway { Midway unit.now.shape.inputs (machine_of_unit unit.now.bytes.now unit.now.shape) rounds (place_of p.0 0) already distances.old }
+    ensures { Midway unit.now.shape.inputs (machine_of_unit unit.now.bytes.now unit.now.shape) rounds (place_of (p.0 + 1) 0) result distances.new }
 {
-    let states = x.states;
     let mut changed = already;
-    let mut q = p.number() + 1;
-    while q < states {
-        changed = mark_pair(
-            unit,
-            x,
-            distances,
-            p,
-            GoldenState::numbered(q),
-            rounds,
-            changed,
-        );
-        q += 1;
+    for q in p.number() + 1..unit.shape.states {
+        let other = GoldenState::numbered(q);
+        changed = mark_pair(unit, distances, p, other, rounds, changed);
     }
     changed
 }
 
 // A whole round.
-fn mark_round(unit: &[u8], x: UnitShape, distances: &mut [u8], rounds: u8) -> bool
-    requires unit_at { UnitAt unit.now x }
-    requires rounds_lt_states { rounds < x.states }
-    requires midway { Midway x.inputs (machine_of_unit unit.now x) rounds 0 false distances.old }
-    ensures { Midway x.inputs (machine_of_unit unit.now x) rounds (place_of x.states 0) result distances.new }
+fn mark_round(unit: &GoldenUnit<'_>, distances: &mut [u8; 4096], rounds: u8) -> bool
+    requires rounds_lt_states { rounds < unit.now.shape.states }
+    requires midway { Midway unit.now.shape.inputs (machine_of_unit unit.now.bytes.now unit.now.shape) rounds 0 false distances.old }
+    ensures { Midway unit.now.shape.inputs (machine_of_unit unit.now.bytes.now unit.now.shape) rounds (place_of unit.now.shape.states 0) result distances.new }
 {
-    let states = x.states;
     let mut changed = false;
-    let mut p = 0;
-    while p < states {
+    for p in 0..unit.shape.states {
         let state = GoldenState::numbered(p);
-        changed = mark_row(unit, x, distances, state, rounds, changed);
-        p += 1;
+        changed = mark_row(unit, distances, state, rounds, changed);
     }
     changed
 }
 
 // Rounds until one changes nothing, at most one less than there are states.
-pub fn find_distances(unit: &[u8], x: UnitShape, distances: &mut [u8])
-    requires unit_at { UnitAt unit.now x }
+pub fn find_distances(unit: &GoldenUnit<'_>, distances: &mut [u8; 4096])
     requires distances_value { distances.old ≡ unmarked }
-    ensures { DistancesAt unit.now x distances.new }
+    ensures { DistancesAt unit.now.bytes.now unit.now.shape distances.new }
 {
-    let last = x.states - 1;
-    let mut rounds = 0;
-    while rounds < last {
-        if !mark_round(unit, x, distances, rounds) {
+    for rounds in 0..unit.shape.states - 1 {
+        if !mark_round(unit, distances, rounds) {
             return;
         }
-        rounds += 1;
     }
 }

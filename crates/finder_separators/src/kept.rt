@@ -1,14 +1,14 @@
 // The places of the words that are kept.
 ghost use Rattle.std.specs.Prelude.{◌≡◌, length};
-ghost use Rattle.reader.specs.Standing.{UnitAt};
 ghost use Rattle.finder_distances.specs.Rounds.{DistancesAt};
 ghost use Rattle.finder_telling.specs.Pairs.{AllTold};
 ghost use Rattle.finder_spelling.specs.Spelt.{text_room, most_words};
 ghost use Rattle.finder_separators.specs.Kept.{TextAt, KeptAt, SeparatorsAt};
 
 use finder_spelling::spell_words;
-use reader::UnitShape;
-use trie_filing::{find_firsts, node_bytes, node_links, put_words};
+use finder_unit::GoldenUnit;
+use trie::Nodes;
+use trie_filing::{NODES, find_firsts, put_words};
 
 // A place for each word.
 pub fn place_room() -> [u16; 2016]
@@ -35,9 +35,8 @@ fn find_in(
     ensures { KeptAt text.now count places.new result }
 {
     put_words(text, 0, inputs, count, label, first, next);
-    find_firsts(
-        text, 0, inputs, count, label, first, next, marks, numbers, places,
-    )
+    let nodes = Nodes { label, first, next };
+    find_firsts(text, 0, inputs, count, nodes, marks, numbers, places)
 }
 
 // The arrays, and the search in them.
@@ -46,10 +45,10 @@ fn find_kept(text: &[u8], inputs: u8, count: usize, places: &mut [u16]) -> usize
     requires places_len { length places.old ≡ most_words }
     ensures { KeptAt text.now count places.new result }
 {
-    let mut label = node_bytes();
-    let mut first = node_links();
-    let mut next = node_links();
-    let mut marks = node_bytes();
+    let mut label = [0; NODES];
+    let mut first = [0; NODES];
+    let mut next = [0; NODES];
+    let mut marks = [0; NODES];
     let mut numbers = place_room();
     find_in(
         text,
@@ -66,20 +65,18 @@ fn find_kept(text: &[u8], inputs: u8, count: usize, places: &mut [u16]) -> usize
 
 // Spells the words in the text, and finds the places of those that are kept. The answer is how many they are.
 pub fn find_separators(
-    unit: &[u8],
-    x: UnitShape,
-    distances: &[u8],
+    unit: &GoldenUnit<'_>,
+    distances: &[u8; 4096],
     text: &mut [u8],
     places: &mut [u16],
 ) -> usize
-    requires unit_at { UnitAt unit.now x }
-    requires distances_at { DistancesAt unit.now x distances.now }
-    requires all_told { AllTold x.states distances.now }
+    requires distances_at { DistancesAt unit.now.bytes.now unit.now.shape distances.now }
+    requires all_told { AllTold unit.now.shape.states distances.now }
     requires text_len { (length text.old ≡ text_room) × (length places.old ≡ most_words) }
-    ensures { SeparatorsAt unit.now x distances.now text.new places.new result }
+    ensures { SeparatorsAt unit.now.bytes.now unit.now.shape distances.now text.new places.new result }
 {
-    let inputs = x.inputs;
-    let count = spell_words(unit, x, distances, text);
+    let inputs = unit.shape.inputs;
+    let count = spell_words(unit, distances, text);
     let distinct = find_kept(text, inputs, count, places);
     distinct
 }

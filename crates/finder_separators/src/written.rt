@@ -16,10 +16,8 @@ pub fn separators_size(text: &[u8], places: &[u16], count: usize) -> usize
     ensures { result ≡ length (flat_map word_bytes (words_from text.now places.now 0 count)) }
 {
     let mut size = 0;
-    let mut j = 0;
-    while j < count {
+    for j in 0..count {
         size = size + 1 + word_length(text, wide_link(places[j]));
-        j += 1;
     }
     size
 }
@@ -31,12 +29,10 @@ fn copy_word(text: &[u8], word: usize, out: &mut [u8], at: usize) -> usize
     ensures { Wrote out.old at (word_bytes (word_at text.now word)) out.new result }
 {
     let size = 1 + word_length(text, word);
-    let mut i = 0;
-    while i < size {
+    for i in 0..size {
         out[at + i] = text[word + i];
-        i += 1;
     }
-    at + i
+    at + size
 }
 
 // Writes them from the place `at` on. The answer is the place after them.
@@ -52,10 +48,8 @@ pub fn write_separators(
     ensures { Wrote out.old at (flat_map word_bytes (words_from text.now places.now 0 count)) out.new result }
 {
     let mut place = at;
-    let mut j = 0;
-    while j < count {
+    for j in 0..count {
         place = copy_word(text, wide_link(places[j]), out, place);
-        j += 1;
     }
     place
 }

@@ -4,7 +4,6 @@
 ghost use Rattle.std.specs.Prelude.{◌≡◌, ◌+◌, ◌≤◌, ◌<◌, length};
 ghost use Rattle.rules.specs.Files.{word_bytes};
 ghost use Rattle.rules.specs.Needed.{pairs};
-ghost use Rattle.reader.specs.Standing.{UnitAt};
 ghost use Rattle.finder_distances.specs.Rounds.{DistancesAt};
 ghost use Rattle.finder_telling.specs.Pairs.{AllTold};
 ghost use Rattle.finder_telling.specs.Read.{telling_off};
@@ -13,8 +12,8 @@ ghost use Rattle.finder_spelling.specs.Spelt.{text_room, row_pairs, spelt_of, Sp
 
 use finder_distances::distance_at;
 use finder_telling::write_telling;
+use finder_unit::GoldenUnit;
 use numbers::wide;
-use reader::UnitShape;
 use rules::GoldenState;
 
 // Room for the words of all pairs: of 64 states there are 2,016 pairs, whose words have at most 43,680 inputs.
@@ -26,80 +25,68 @@ pub fn text_room() -> [u8; 45696]
 
 // The word of two states. The answer is the place after it.
 fn spell_pair(
-    unit: &[u8],
-    x: UnitShape,
-    distances: &[u8],
+    unit: &GoldenUnit<'_>,
+    distances: &[u8; 4096],
     p: GoldenState,
     q: GoldenState,
     text: &mut [u8],
     at: usize,
 ) -> usize
-    requires unit_at { UnitAt unit.now x }
-    requires distances_at { DistancesAt unit.now x distances.now }
-    requires p_lt_states { (p.0 < x.states) × (q.0 < x.states) }
-    requires q_in_bounds { at + length (word_bytes (telling_off unit.now x distances.now p.0 q.0)) ≤ length text.old }
-    ensures { Wrote text.old at (word_bytes (telling_off unit.now x distances.now p.0 q.0)) text.new result }
+    requires distances_at { DistancesAt unit.now.bytes.now unit.now.shape distances.now }
+    requires p_lt_states { (p.0 < unit.now.shape.states) × (q.0 < unit.now.shape.states) }
+    requires q_in_bounds { at + length (word_bytes (telling_off unit.now.bytes.now unit.now.shape distances.now p.0 q.0)) ≤ length text.old }
+    ensures { Wrote text.old at (word_bytes (telling_off unit.now.bytes.now unit.now.shape distances.now p.0 q.0)) text.new result }
 {
     text[at] = distance_at(distances, p, q);
-    write_telling(unit, x, distances, p, q, text, at + 1)
+    write_telling(unit, distances, p, q, text, at + 1)
 }
 
 // The words of a state and each that is above it.
 fn spell_row(
-    unit: &[u8],
-    x: UnitShape,
-    distances: &[u8],
+    unit: &GoldenUnit<'_>,
+    distances: &[u8; 4096],
     p: GoldenState,
     text: &mut [u8],
     at: usize,
 ) -> usize
-    requires unit_at { UnitAt unit.now x }
-    requires distances_at { DistancesAt unit.now x distances.now }
-    requires p_lt_states { p.0 < x.states }
-    requires p_in_bounds { at + length (spelt_of unit.now x distances.now (row_pairs x.states p.0 (p.0 + 1))) ≤ length text.old }
-    ensures { Wrote text.old at (spelt_of unit.now x distances.now (row_pairs x.states p.0 (p.0 + 1))) text.new result }
+    requires distances_at { DistancesAt unit.now.bytes.now unit.now.shape distances.now }
+    requires p_lt_states { p.0 < unit.now.shape.states }
+    requires p_in_bounds { at + length (spelt_of unit.now.bytes.now unit.now.shape distances.now (row_pairs unit.now.shape.states p.0 (p.0 + 1))) ≤ length text.old }
+    ensures { Wrote text.old at (spelt_of unit.now.bytes.now unit.now.shape distances.now (row_pairs unit.now.shape.states p.0 (p.0 + 1))) text.new result }
 {
-    let states = x.states;
     let mut place = at;
-    let mut q = p.number() + 1;
-    while q < states {
+    for q in p.number() + 1..unit.shape.states {
         let other = GoldenState::numbered(q);
-        place = spell_pair(unit, x, distances, p, other, text, place);
-        q += 1;
+        place = spell_pair(unit, distances, p, other, text, place);
     }
     place
 }
 
 // The words of all pairs. The answer is how many they are.
-fn spell_pairs(unit: &[u8], x: UnitShape, distances: &[u8], text: &mut [u8]) -> usize
-    requires unit_at { UnitAt unit.now x }
-    requires distances_at { DistancesAt unit.now x distances.now }
-    requires states_in_bounds { length (spelt_of unit.now x distances.now (pairs x.states)) ≤ length text.old }
-    ensures { SpellsAll unit.now x distances.now text.old text.new result }
+fn spell_pairs(unit: &GoldenUnit<'_>, distances: &[u8; 4096], text: &mut [u8]) -> usize
+    requires distances_at { DistancesAt unit.now.bytes.now unit.now.shape distances.now }
+    requires states_in_bounds { length (spelt_of unit.now.bytes.now unit.now.shape distances.now (pairs unit.now.shape.states)) ≤ length text.old }
+    ensures { SpellsAll unit.now.bytes.now unit.now.shape distances.now text.old text.new result }
 {
-    let states = x.states;
     let mut place = 0;
     let mut count = 0;
-    let mut p = 0;
-    while p < states {
-        place = spell_row(unit, x, distances, GoldenState::numbered(p), text, place);
-        p += 1;
-        count += wide(states - p);
+    for p in 0..unit.shape.states {
+        place = spell_row(unit, distances, GoldenState::numbered(p), text, place);
+        count += wide(unit.shape.states - p - 1);
     }
     count
 }
 
 // The words of all pairs; for one state, which is in no pair, the empty word. The answer is how many they are.
-pub fn spell_words(unit: &[u8], x: UnitShape, distances: &[u8], text: &mut [u8]) -> usize
-    requires unit_at { UnitAt unit.now x }
-    requires distances_at { DistancesAt unit.now x distances.now }
-    requires all_told { AllTold x.states distances.now }
+pub fn spell_words(unit: &GoldenUnit<'_>, distances: &[u8; 4096], text: &mut [u8]) -> usize
+    requires distances_at { DistancesAt unit.now.bytes.now unit.now.shape distances.now }
+    requires all_told { AllTold unit.now.shape.states distances.now }
     requires text_len { length text.old ≡ text_room }
-    ensures { SpeltAt unit.now x distances.now text.new result }
+    ensures { SpeltAt unit.now.bytes.now unit.now.shape distances.now text.new result }
 {
-    if x.states == 1 {
+    if unit.shape.states == 1 {
         text[0] = 0;
         return 1;
     }
-    spell_pairs(unit, x, distances, text)
+    spell_pairs(unit, distances, text)
 }

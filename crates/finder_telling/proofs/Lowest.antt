@@ -14,8 +14,7 @@ use Rattle.rules.specs.declared.GoldenState.{GoldenState}
 use Rattle.theory.specs.Lists.{first-none, least_first, none_first}
 use Rattle.theory.specs.Sound.{LowerPair, lower_one_way, in_pairs, of_pairs, pairs_rising}
 use Rattle.finder_distances.specs.Marks.{place_of, mark_of}
-use Rattle.soundness_apart.specs.declared.PairFound.{PairFound}
-use Rattle.soundness_apart.specs.declared.PairFound.TheVariants.{Nowhere, At}
+use Rattle.std.specs.Prelude.{Option as Found, Some, None}
 use Rattle.soundness_apart.specs.Separating.{pair_found}
 use Rattle.finder_telling.specs.Pairs.{untold_by, lowest_untold, ToldBefore, AllTold, RowOf}
 
@@ -28,7 +27,7 @@ module _ (n : ℕ) (m : List ℕ) where
     pub row_start : (p q : ℕ) → q ≡ p → ToldBefore n m (place_of p 0) → ToldBefore n m (place_of p (q + 1))
     row_start p q is told = record { told = λ a b two h before. told.told a b two h (omega arith) }
 
-    pub row_end : (p q : ℕ) → n ≤ q → ToldBefore n m (place_of p q) → RowOf n m p Nowhere
+    pub row_end : (p q : ℕ) → n ≤ q → ToldBefore n m (place_of p q) → RowOf n m p None
     row_end p q over told = record { told = λ a b two h before. told.told a b two h (omega arith) }
 
     pub told_next : (p q d : ℕ) (x : GoldenState) → p < q → q < n → x.0 ≡ q → d ≡ mark_of m p x.0 → d ≢ 0 → ToldBefore n m (place_of p q) → ToldBefore n m (place_of p (q + 1))
@@ -46,7 +45,7 @@ module _ (n : ℕ) (m : List ℕ) where
 
     -- the two states that are found
     pub row_found : (p x : GoldenState) (q d : ℕ) → p.0 < q → q < n → x.0 ≡ q → d ≡ mark_of m p.0 x.0 → d ≡ 0 → ToldBefore n m (place_of p.0 q)
-        → RowOf n m p.0 (At p x)
+        → RowOf n m p.0 (Some (p, x))
     unfolding lowest_untold
     row_found p x q d less state is asked zero' told =
         let found =
@@ -60,21 +59,21 @@ module _ (n : ℕ) (m : List ℕ) where
         }) in
         rw found
 
-    pub none_found : (p : ℕ) → n ≤ p → ToldBefore n m (place_of p 0) → Nowhere ≡ pair_found (lowest_untold n m)
+    pub none_found : (p : ℕ) → n ≤ p → ToldBefore n m (place_of p 0) → None ≡ pair_found (lowest_untold n m)
     unfolding lowest_untold
     none_found p over told =
         let none' = none_first (untold_by m) (pairs n) (λ (a, b) in_a. let (two, h) = of_pairs n in_a in ne_eqb _ 0 (told.told a b two h (omega arith))) in
         rw none'
 
   -- what a row came to
-  pub row_at : (p : ℕ) (r : PairFound) (a b : GoldenState) → RowOf n m p r → r ≡ At a b → At a b ≡ pair_found (lowest_untold n m)
+  pub row_at : (p : ℕ) (r : Found (GoldenState × GoldenState)) (a b : GoldenState) → RowOf n m p r → r ≡ Some (a, b) → Some (a, b) ≡ pair_found (lowest_untold n m)
   row_at p r a b row is = rw is at row
 
-  pub row_nowhere : (p q : ℕ) (r : PairFound) → p ≡ q → RowOf n m p r → r ≡ Nowhere → ToldBefore n m (place_of (q + 1) 0)
+  pub row_nowhere : (p q : ℕ) (r : Found (GoldenState × GoldenState)) → p ≡ q → RowOf n m p r → r ≡ None → ToldBefore n m (place_of (q + 1) 0)
   row_nowhere p q r same row is = rw (← same) (rw is at row)
 
 -- none was found: each two states have a distance
-pub none-untold : (n : ℕ) (m : List ℕ) (r : PairFound) → r ≡ pair_found (lowest_untold n m) → r ≡ Nowhere → AllTold n m
+pub none-untold : (n : ℕ) (m : List ℕ) (r : Found (GoldenState × GoldenState)) → r ≡ pair_found (lowest_untold n m) → r ≡ None → AllTold n m
 unfolding lowest_untold
 none-untold n m r e is =
     record {

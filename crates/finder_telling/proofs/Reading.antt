@@ -16,8 +16,7 @@ use Rattle.rules.specs.declared.Input.{Input}
 use Rattle.theory.specs.Lists.{optional, clash, first-none, in_numbers}
 use Rattle.theory.specs.Access.{FirstTold}
 use Rattle.theory.specs.Distances.{Marked, first_one, read_last, read_on, read_first}
-use Rattle.finder_distances.specs.declared.Lead.{Lead}
-use Rattle.finder_distances.specs.declared.Lead.TheVariants.{By, Nowhere}
+use Rattle.std.specs.Prelude.{Option as Found, Some, None}
 use Rattle.finder_distances.specs.Marks.{mark_of}
 use Rattle.finder_distances.specs.Leads.{differs, nears, leads, lead_of}
 use Rattle.finder_distances.proofs.Rounding.{lead_some, lead_found, lead_none}
@@ -100,15 +99,15 @@ module _ (k : ℕ) (M : Machine) (complete : Complete k M) (m : List ℕ) (round
       (off_first d (M.next p i) (M.next q i) (complete.closed p i state_p h) (complete.closed q i state_q h) near)
 
   -- What the program finds is that input.
-  module _ (p q : ℕ) (state_p : p < M.states) (state_q : q < M.states) (left : ℕ) (far : mark_of m p q ≡ left + 1) (found : Lead)
+  module _ (p q : ℕ) (state_p : p < M.states) (state_q : q < M.states) (left : ℕ) (far : mark_of m p q ≡ left + 1) (found : Found Input)
       (search : found ≡ lead_of (first (leads M m left p q) (numbers k))) where
-    pub input_found : (i : Input) → found ≡ By i → (i.0 ≡ next_input k M m left p q) × (i.0 < k)
+    pub input_found : (i : Input) → found ≡ Some i → (i.0 ≡ next_input k M m left p q) × (i.0 < k)
     unfolding next_input
     input_found i is =
         let e = lead_some (leads M m left p q) k found i search is in
         (sym (ap input_of e), (lead_found (leads M m left p q) k i.0 e).0)
 
-    pub input_lacking : found ≡ Nowhere → ⊥
+    pub input_lacking : found ≡ None → ⊥
     input_lacking is =
         let (i, h, passes) = some_lead p q state_p state_q left (far ∙ add-one left) in
         clash passes (lead_none (leads M m left p q) k found search is i h)

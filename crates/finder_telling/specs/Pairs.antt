@@ -4,8 +4,8 @@ use Rattle.std.proofs.Math.Option.{Option}
 use Rattle.rules.specs.Lists.{first}
 use Rattle.rules.specs.Needed.{pairs}
 use Rattle.finder_distances.specs.Marks.{place_of, mark_of}
-use Rattle.soundness_apart.specs.declared.PairFound.{PairFound}
-use Rattle.soundness_apart.specs.declared.PairFound.TheVariants.{Nowhere, At}
+use Rattle.rules.specs.declared.GoldenState.{GoldenState}
+use Rattle.std.specs.Prelude.{Option as Found, Some, None}
 use Rattle.soundness_apart.specs.Separating.{pair_found}
 
 -- two states have no distance
@@ -25,6 +25,6 @@ pub record AllTold (n : ℕ) (m : List ℕ) : Type 0 where
   pub told : (p q : ℕ) → p < q → q < n → 0 < mark_of m p q
 
 -- what the pairs with the first state p came to, where those before them have distances
-abbrev pub RowOf : ℕ → List ℕ → ℕ → PairFound → Type 0
-RowOf n m p Nowhere = ToldBefore n m (place_of (p + 1) 0)
-RowOf n m p (At a b) = At a b ≡ pair_found (lowest_untold n m)
+abbrev pub RowOf : ℕ → List ℕ → ℕ → Found (GoldenState × GoldenState) → Type 0
+RowOf n m p None = ToldBefore n m (place_of (p + 1) 0)
+RowOf n m p (Some (a, b)) = Some (a, b) ≡ pair_found (lowest_untold n m)

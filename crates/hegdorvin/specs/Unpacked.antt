@@ -5,7 +5,6 @@ use Rattle.std.proofs.Math.Decide.{ℕ_discrete}
 use Rattle.rules.specs.declared.Checked.{Checked}
 use Rattle.rules.specs.declared.Built.{Built}
 use Rattle.rules.specs.declared.Ran.{Ran}
-use Rattle.rules.specs.declared.Compared.{Compared}
 use Rattle.rules.specs.declared.Judged.{Judged}
 use Rattle.rules.specs.declared.Costed.{Costed}
 use Rattle.rules.specs.declared.Found.{Found}
@@ -13,7 +12,7 @@ use Rattle.rules.specs.declared.Imported.{Imported}
 use Rattle.rules.specs.Answers.{Said, well, check_says, build_says, run_says, judge_says, cost_says, find_says, import_says}
 use Rattle.rules.specs.Operations.{Part, part_of, judged_part}
 use Rattle.rules.specs.Promises.{CheckPromise, BuildPromise, RunPromise, JudgePromise, JudgeWordPromise, CostPromise, FindPromise, ReadKiss2Promise}
-use Rattle.theory.specs.Answers.{value, check_said, check_said_lem, build_said, build_said_lem, run_said, run_said_lem, compare_said, compare_said_lem, judge_said, judge_said_lem, cost_said, cost_said_lem, find_said, find_said_lem, import_said, import_said_lem}
+use Rattle.theory.specs.Answers.{value, check_said, check_said_lem, build_said, build_said_lem, run_said, run_said_lem, compare_said, judge_said, judge_said_lem, cost_said, cost_said_lem, find_said, find_said_lem, import_said, import_said_lem}
 use Rattle.theory.specs.Bounds.{Fits, PlainFits, MissingFits, check_fits, build_fits, run_fits, judge_fields_fit, judged_part_fits, cost_fits, find_fits, import_fits}
 use Rattle.hegdorvin_packing.specs.Packed.{packed_plain, packed_missing, packed}
 

@@ -10,7 +10,7 @@ use borrow.Author.Tests.{not-true, not-false, le-leb, lt-leb}
 use lib.ListN.{length, get_or}
 use Rattle.rules.specs.declared.UnitState.{UnitState}
 use Rattle.rules.specs.declared.Input.{Input}
-use Rattle.rules.specs.declared.Refusal.TheVariants.{BadLine, Incomplete, NoRoom, Malformed, Contradiction}
+use Rattle.rules.specs.declared.Refusal.TheVariants.{BadLine, Incomplete, NoRoom, Malformed}
 use Rattle.rules.specs.declared.Imported.{Imported}
 use Rattle.rules.specs.declared.Imported.TheVariants.{Written, Refused}
 use Rattle.rules.specs.Lists.{◌∈◌, numbers_from, first}
@@ -26,15 +26,13 @@ use Rattle.rules.specs.Answers.{import_says}
 use Rattle.rules.specs.Promises.{ReadKiss2Promise}
 use lib.Dec.{leb}
 use Rattle.importer_terms.specs.Entries.{EntriesAt}
-use Rattle.importer_unit.specs.declared.SilentFound.{SilentFound}
-use Rattle.importer_unit.specs.declared.SilentFound.TheVariants.{Nowhere, At}
+use Rattle.std.specs.Prelude.{Option, None, Some, Result, Ok, Err}
+use Rattle.rules.specs.declared.Refusal.{Refusal}
 use Rattle.importer_unit.specs.Numbered.{RanksIn, NumbersIn, Ranking, NumberedAt}
 use Rattle.importer_unit.specs.Held.{silent_found, Tables, TableThere}
 use Rattle.importer_unit.proofs.Holding.{numbers_of, tables_of, all_there}
 use Rattle.importer_unit.proofs.Silences.{nowhere_none, at_some}
 use Rattle.importer_reading.specs.declared.Progress.{Progress}
-use Rattle.importer_reading.specs.declared.LinesRead.{LinesRead}
-use Rattle.importer_reading.specs.declared.LinesRead.TheVariants.{Bad, Contradicts, Read}
 use Rattle.importer_reading.specs.Held.{Held}
 use Rattle.importer_reading.specs.Lines.{ReadOf, ReadAs}
 use Rattle.importer.specs.Finished.{completed, finished, AnsweredAs, Ranked, SomeRead}
@@ -70,7 +68,7 @@ module _ (said : List Says) (nexts outputs ranks : List ℕ) (states inputs : �
     pub numbers_in : NumbersIn numbering states
     numbers_in = numbers_of numbered states all_states
 
-    module _ (found : SilentFound)
+    module _ (found : Option (UnitState × Input))
         (search_is : (names order : List Field) (terms : List Term) (outputs ranks : List ℕ) → EntriesAt nexts outputs names terms → NumberedAt ranks numbering names order → length order ≡ states
         → found ≡ silent_found (first (λ (q, i). is_silent (first (is_about (get_or order q []) i) terms)) (grid states inputs))) where
       found_is : found ≡ silent_found (silent said)
@@ -80,12 +78,12 @@ module _ (said : List Says) (nexts outputs ranks : List ℕ) (states inputs : �
           (search_is (names_in said) (state_names said) (terms_in said) outputs ranks ranked.entered numbered all_states)
 
       -- 21
-      pub incomplete : (s : UnitState) (i : Input) → found ≡ At s i → (out : List ℕ) → AnsweredAs (completed said out) out out (Refused (Incomplete s i))
+      pub incomplete : (s : UnitState) (i : Input) → found ≡ Some (s, i) → (out : List ℕ) → AnsweredAs (completed said out) out out (Refused (Incomplete s i))
       incomplete s i is out =
           let here = at_some (silent said) s i (sym is ∙ found_is) in
           record { answer = rw here; output = rw here }
 
-      module _ (is : found ≡ Nowhere) where
+      module _ (is : found ≡ None) where
         none-silent : silent said ≡ none
         none-silent = nowhere_none (silent said) (sym is ∙ found_is)
 
@@ -126,24 +124,18 @@ unfolding read_kiss2
 text_long bytes out over = let long = lt-leb (length bytes) most_text_bytes over in (rw long, rw long)
 
 -- and what comes of one that is not, by what came of its lines.
-module _ (s names lengths nexts outputs ranks : List ℕ) (small : length s ≤ most_text_bytes) (r : LinesRead) (read : ReadAs s names lengths nexts outputs ranks r) where
+module _ (s names lengths nexts outputs ranks : List ℕ) (small : length s ≤ most_text_bytes) (r : Result (Progress × ℕ) Refusal) (read : ReadAs s names lengths nexts outputs ranks r) where
   short : leb (length s) most_text_bytes ≡ true
   short = le-leb (length s) most_text_bytes small
 
-  pub text_bad : (out : List ℕ) (line : ℕ) → r ≡ Bad line → ReadKiss2Promise s out (Refused (BadLine line)) out
+  pub text_refused : (out : List ℕ) (e : Refusal) → r ≡ Err e → ReadKiss2Promise s out (Refused e) out
   unfolding read_kiss2
-  text_bad out line is =
-      let told : ReadOf s names lengths nexts outputs ranks (Bad line) = rw is at read.told in
+  text_refused out e is =
+      let told : ReadOf s names lengths nexts outputs ranks (Err e) = rw is at read.told in
       (rw (short, told), rw (short, told))
 
-  pub text_contradicts : (out : List ℕ) (line : ℕ) → r ≡ Contradicts line → ReadKiss2Promise s out (Refused (Contradiction line)) out
-  unfolding read_kiss2
-  text_contradicts out line is =
-      let told : ReadOf s names lengths nexts outputs ranks (Contradicts line) = rw is at read.told in
-      (rw (short, told), rw (short, told))
-
-  module _ (x : Progress) (behind : ℕ) (is : r ≡ Read x behind) where
-    told : ReadOf s names lengths nexts outputs ranks (Read x behind)
+  module _ (x : Progress) (behind : ℕ) (is : r ≡ Ok (x, behind)) where
+    told : ReadOf s names lengths nexts outputs ranks (Ok (x, behind))
     told = rw is at read.told
 
     pub some_read : SomeRead x nexts outputs ranks

@@ -1,5 +1,5 @@
 -- Laws of the numbers that all states have once the last line is read.
-use Prim.Native.Nat.{ℕ, zero, suc, ◌^◌, ◌≤◌, ◌<◌}
+use Prim.Native.Nat.{ℕ, suc, ◌^◌, ◌≤◌, ◌<◌}
 use native.Mathlib.Omega.{arith}
 use native.Mathlib.Nat.{pow-le-pow_right}
 use mathlib.Core.Path.{◌≡◌, refl, sym, ap, ◌∙◌}
@@ -18,7 +18,7 @@ use Rattle.theory.specs.Words.{in_is_in, is_in_in}
 use Rattle.theory.specs.Maximal.{distinct_apart}
 use Rattle.theory.specs.Kiss2.{as_many_names}
 use Rattle.theory.specs.Kiss2Units.{place_below}
-use Rattle.importer_counts.specs.Counts.{listed}
+use Rattle.std.specs.Prelude.{Option, None, Some, option_to_list, unwrap_or}
 use Rattle.importer_ranks.specs.Ranks.{RanksAt, order_of}
 use Rattle.importer_ranks.proofs.Ordering.{order_whole, names_distinct}
 use Rattle.importer_ranks.proofs.Ranking.{ranks_few, place_once}
@@ -75,9 +75,9 @@ module _ (said : List Says) (ranks : List ℕ) (at : RanksAt ranks (names_in sai
 pub power_low : (bits : ℕ) → bits ≤ 4 → 2 ^ bits ≤ 16
 power_low bits few = let low : 2 ^ bits ≤ 2 ^ 4 = pow-le-pow_right (omega arith) few in low
 
-listed_first : (n : ℕ) → get_or (listed n) 0 0 ≡ n
-listed_first zero = refl
-listed_first (suc n) = refl
+listed_first : (n : Option ℕ) → get_or (option_to_list n) 0 0 ≡ unwrap_or n 0
+listed_first None = refl
+listed_first (Some n) = refl
 
 module _ (said : List Says) (x : Progress) (names lengths nexts outputs ranks : List ℕ) (held : Held said x names lengths nexts outputs ranks) where
   -- Where the lines are read, the table has room, and no more names have a number than there are.
@@ -91,9 +91,9 @@ module _ (said : List Says) (x : Progress) (names lengths nexts outputs ranks : 
   -- Once the names that have no number get theirs, the table has the number of each state.
   pub ranked_now : (ranks' : List ℕ) (count ranked r k : ℕ)
       → ((names order : List Field) → RanksAt ranks names order → distinct names ≡ names → count ≡ length names → ranked ≡ length order → RanksAt ranks' names (order ++ keep (λ n. not (is_in n order)) names) × (r ≡ length names))
-      → count ≡ x.names → ranked ≡ x.ranked → k ≡ 2 ^ x.counts.input_bits → Ranked said nexts outputs ranks' x.names k
+      → count ≡ x.names → ranked ≡ x.ranked → k ≡ 2 ^ unwrap_or x.counts.input_bits 0 → Ranked said nexts outputs ranks' x.names k
   ranked_now ranks' count ranked r k given all so_many is =
-      let power : inputs_in said ≡ 2 ^ x.counts.input_bits =
+      let power : inputs_in said ≡ 2 ^ unwrap_or x.counts.input_bits 0 =
       ap (λ (l : List ℕ). 2 ^ get_or l 0 0) held.counted.input_bits ∙ ap (λ n. 2 ^ n) (listed_first x.counts.input_bits) in
       record {
         entered = held.entered;
@@ -101,5 +101,5 @@ module _ (said : List Says) (x : Progress) (names lengths nexts outputs ranks : 
         ranked = rw (order_whole said) (given (names_in said) (order_of said) held.ranked (names_distinct said) (all ∙ held.many) (so_many ∙ held.so_many)).0;
         many = held.many;
         inputs_are = is ∙ sym power;
-        few_inputs = omega (arith, power_low x.counts.input_bits held.counted.few_inputs);
+        few_inputs = omega (arith, power_low (unwrap_or x.counts.input_bits 0) held.counted.few_inputs);
       }

@@ -9,9 +9,9 @@ ghost use Rattle.importer.specs.Finished.{completed, finished, AnsweredAs, Ranke
 
 use importer_counts::is_whole;
 use importer_ranks::{give_ranks, no_ranks};
-use importer_reading::{LinesRead, Progress, read_lines};
+use importer_reading::{Progress, read_lines};
 use importer_terms::no_entries;
-use importer_unit::{SilentFound, find_silent, number_states, write_unit};
+use importer_unit::{find_silent, number_states, write_unit};
 use rules::{Fault, File, Imported, Refusal};
 
 // The most bytes of a text.
@@ -40,16 +40,14 @@ fn write_complete(
     let room = out.len();
     let size = 6 + 2 * (states * inputs);
     let numbers = number_states(ranks, states);
-    match find_silent(nexts, &numbers, states, inputs) {
-        SilentFound::At(state, input) => Imported::Refused(Refusal::Incomplete(state, input)),
-        SilentFound::Nowhere => {
-            if room < size {
-                return Imported::Refused(Refusal::NoRoom(size));
-            }
-            write_unit(nexts, outputs, ranks, &numbers, states, inputs, out);
-            Imported::Written(size)
-        }
+    if let Some((state, input)) = find_silent(nexts, &numbers, states, inputs) {
+        return Imported::Refused(Refusal::Incomplete(state, input));
     }
+    if room < size {
+        return Imported::Refused(Refusal::NoRoom(size));
+    }
+    write_unit(nexts, outputs, ranks, &numbers, states, inputs, out);
+    Imported::Written(size)
 }
 
 // What comes of the lines, where `behind` is the number of the line behind the last.
@@ -69,14 +67,9 @@ fn finish(
         return Imported::Refused(Refusal::BadLine(behind));
     }
     give_ranks(ranks, states, x.ranked);
-    write_complete(
-        nexts,
-        outputs,
-        ranks,
-        states,
-        input_count(x.counts.input_bits),
-        out,
-    )
+    // A whole text has said how many bits an input has, so that the 0 is never taken.
+    let inputs = input_count(x.counts.input_bits.unwrap_or(0));
+    write_complete(nexts, outputs, ranks, states, inputs, out)
 }
 
 // Reads a text into a unit.
@@ -99,8 +92,7 @@ pub fn read_kiss2(text: &[u8], out: &mut [u8]) -> Imported
         &mut outputs,
         &mut ranks,
     ) {
-        LinesRead::Bad(line) => Imported::Refused(Refusal::BadLine(line)),
-        LinesRead::Contradicts(line) => Imported::Refused(Refusal::Contradiction(line)),
-        LinesRead::Read(x, behind) => finish(x, behind, &nexts, &outputs, &mut ranks, out),
+        Ok((x, behind)) => finish(x, behind, &nexts, &outputs, &mut ranks, out),
+        Err(refusal) => Imported::Refused(refusal),
     }
 }

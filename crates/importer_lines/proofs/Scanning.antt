@@ -1,41 +1,39 @@
--- Laws of looking for the first byte that passes a test.
-use Prim.Native.Nat.{ℕ, ◌+◌, ◌≤◌, ◌<◌}
-use native.Mathlib.Nat.{eq-or-lt_of_le}
-use native.Mathlib.Omega.{arith}
-use mathlib.Core.Path.{◌≡◌}
-use mathlib.Core.Logic.{⊎_elim}
-use mathlib.Core.List.{List}
-use mathlib.Core.Bool.{Bool, true, false}
-use lib.ListN.{get_or}
-use Rattle.importer_lines.specs.Parts.{FirstAt}
+-- What an iterator's `position` finds in a part of a text, as a place in the text.
+use Rattle.std.proofs.Common.{◌≡◌, ℕ, ◌+◌, ◌-◌, ◌≤◌, ◌<◌, List, Bool, true, false, length, get_or, arith, sym}
+use Rattle.std.proofs.lemmas.List.{get_or-take, get_or-drop, length-drop, length-take-le}
+use Rattle.std.specs.List.{AllWithin, HoldsAt}
+use Rattle.std.specs.Prelude.{Option, None, Some, MatchOption, unwrap_or}
+use Rattle.importer_lines.specs.Parts.{part_at, FirstAt}
 
--- no byte before p passes
-pub record Scanned (test : ℕ → Bool) (s : List ℕ) (from end p : ℕ) : Type 0 where
-  pub behind : from ≤ p
-  pub inside : p ≤ end
-  pub clear : (j : ℕ) → from ≤ j → j < p → test (get_or s j 0) ≡ false
+-- r is the index of the first byte that passes
+abbrev pub Found : (ℕ → Bool) → List ℕ → Option ℕ → Type 0
+Found test l r =
+    MatchOption r
+    (AllWithin (λ b. test b ≡ false) l 0 (length l))
+    (λ i. (i < length l) × HoldsAt (λ b. test b ≡ true) l i × AllWithin (λ b. test b ≡ false) l 0 i)
 
-module _ (test : ℕ → Bool) (s : List ℕ) (from end : ℕ) where
-  pub scan_start : from ≤ end → Scanned test s from end from
-  scan_start le = record { behind = omega arith; inside = le; clear = λ j after before. absurd (omega arith) }
+module _ (test : ℕ → Bool) (s : List ℕ) (from end : ℕ) (le : from ≤ end) (fits : end ≤ length s) where
+  byte_at : (j : ℕ) → from ≤ j → j < end → get_or (part_at s from end) (j - from) 0 ≡ get_or s j 0
+  byte_at j behind before =
+      let e : from + (j - from) ≡ j = omega arith in
+      let less : j - from < end - from = omega arith in
+      rw (get_or-take, get_or-drop, e)
 
-  module _ (p : ℕ) (so_far : Scanned test s from end p) where
-    pub scan_next : p < end → test (get_or s p 0) ≡ false → Scanned test s from end (p + 1)
-    scan_next less fails =
-        record {
-          behind = omega (arith, so_far.behind);
-          inside = omega arith;
-          clear = λ j after before. ⊎_elim (λ e. rw e fails) (λ lt. so_far.clear j after lt) (eq-or-lt_of_le {n = j} {m = p} (omega arith));
-        }
+  size : length (part_at s from end) ≡ end - from
+  size = length-take-le _ _ (omega (arith, length-drop from s))
 
-    pub scan_here : p < end → test (get_or s p 0) ≡ true → FirstAt test s from end p
-    scan_here less passes = record { behind = so_far.behind; inside = so_far.inside; clear = so_far.clear; there = λ lt. passes }
-
-    pub scan_end : end ≤ p → FirstAt test s from end p
-    scan_end done =
-        record {
-          behind = so_far.behind;
-          inside = so_far.inside;
-          clear = so_far.clear;
-          there = λ lt. absurd (omega arith);
-        }
+  pub first_at : (r : Option ℕ) (n : ℕ) → Found test (part_at s from end) r → n ≡ unwrap_or r (end - from) → FirstAt test s from end (from + n)
+  first_at None n clear is =
+      record {
+        behind = omega arith;
+        inside = omega arith;
+        clear = λ j after before. rw (sym (byte_at j after (omega arith))) (clear (j - from) 0 (omega arith) (omega (arith, size)));
+        there = λ less. absurd (omega arith);
+      }
+  first_at (Some i) n (inside, passes, clear) is =
+      record {
+        behind = omega arith;
+        inside = omega (arith, size);
+        clear = λ j after before. rw (sym (byte_at j after (omega (arith, size)))) (clear (j - from) 0 (omega arith) (omega arith));
+        there = λ less. let e : (from + i) - from ≡ i = omega arith in rw (is, sym (byte_at (from + i) (omega arith) (omega arith)), e) (passes 0);
+      }

@@ -9,13 +9,7 @@ use crate::{Fields, Part};
 fn is_gap(byte: u8) -> bool
     ensures { result ≡ is_gap byte }
 {
-    if byte == b' ' {
-        return true;
-    }
-    if byte == b'\t' {
-        return true;
-    }
-    byte == b'\r'
+    byte == b' ' || byte == b'\t' || byte == b'\r'
 }
 
 // The first byte of a field, or `end` where there are only gaps.
@@ -23,14 +17,8 @@ fn field_start(text: &[u8], from: usize, end: usize) -> usize
     requires { (from ≤ end) × (end ≤ length text.now) }
     ensures { FirstAt no_gap text.now from end result }
 {
-    let mut p = from;
-    while p < end {
-        if !is_gap(text[p]) {
-            return p;
-        }
-        p += 1;
-    }
-    p
+    let gaps = text[from..end].iter().position(|&byte| !is_gap(byte));
+    from + gaps.unwrap_or(end - from)
 }
 
 // The first gap, or `end` where there is none.
@@ -38,14 +26,8 @@ fn field_end(text: &[u8], from: usize, end: usize) -> usize
     requires { (from ≤ end) × (end ≤ length text.now) }
     ensures { FirstAt is_gap text.now from end result }
 {
-    let mut p = from;
-    while p < end {
-        if is_gap(text[p]) {
-            return p;
-        }
-        p += 1;
-    }
-    p
+    let size = text[from..end].iter().position(|&byte| is_gap(byte));
+    from + size.unwrap_or(end - from)
 }
 
 // The first field from `from` on. Where there is none, the part is empty and stands at `end`.
@@ -59,11 +41,11 @@ pub fn next_field(text: &[u8], from: usize, end: usize) -> Part
     Part { start, end: stop }
 }
 
-// 1 for a field, 0 where there was none.
+// How many fields a part is.
 fn held(part: Part) -> u8
     ensures { (result ≡ held_of part) × (result ≤ 1) }
 {
-    if part.start < part.end { 1 } else { 0 }
+    u8::from(part.start < part.end)
 }
 
 // Behind the last field every part is empty, so that each field is looked for from where the one before it ends.

@@ -7,12 +7,6 @@ pub fn line_end(text: &[u8], from: usize) -> usize
     requires { from ≤ length text.now }
     ensures { LineEnd text.now from result }
 {
-    let mut p = from;
-    while p < text.len() {
-        if text[p] == b'\n' {
-            return p;
-        }
-        p += 1;
-    }
-    p
+    let size = text[from..].iter().position(|&byte| byte == b'\n');
+    from + size.unwrap_or(text.len() - from)
 }

@@ -13,10 +13,9 @@ use Rattle.rules.specs.Words.{same, is_in}
 use Rattle.rules.specs.Kiss2.{Field, place_in}
 use Rattle.theory.specs.Lists.{outcome}
 use Rattle.theory.specs.Words.{same_true, same_refl, same_false, differ_same}
-use Rattle.texts.proofs.Alike.{other_length}
 use Rattle.importer_lines.specs.declared.Part.{Part}
 use Rattle.importer_lines.specs.Parts.{bytes_at, FieldIn}
-use Rattle.importer_names.specs.declared.Naming.TheVariants.{Full, At}
+use Rattle.std.specs.Prelude.{None, Some}
 use Rattle.importer_names.specs.Names.{name_at, SlotIn, SlotsIn, NamesAt, NamedAs}
 
 pub slot_in : {names lengths : List ℕ} {n : ℕ} → SlotsIn names lengths n → (j : ℕ) → j < n → SlotIn names lengths j
@@ -35,7 +34,7 @@ module _ (names lengths text : List ℕ) (part : Part) (j w : ℕ) (slot : SlotI
   other_size other =
       let long : length (name_at names lengths j) ≡ get_or lengths j 0 = length-take-le (get_or lengths j 0) (drop (j * 16) names) (omega (arith, length-drop (j * 16) names, slot.room, slot.below, slot.short)) in
       let long' = part_long text part.start part.end field.some_byte field.inside in
-      other_length (name_at names lengths j) (bytes_at text part) (λ e. other (omega arith))
+      sym (differ_same {v = name_at names lengths j} {w = bytes_at text part} (λ e. let e' = ap (λ (l : List ℕ). length l) e in other (omega arith)))
 
   pub other_last : part.end - part.start ≡ w → get_or names (j * 16 + w - 1) 0 ≢ get_or text (part.end - 1) 0 → false ≡ same (name_at names lengths j) (bytes_at text part)
   other_last size other =
@@ -90,10 +89,9 @@ module _ (names lengths : List ℕ) (w : Field) where
         (λ i lt. ap (λ n. same n w) (sym (at.stand i (omega arith))) ∙ others.other i lt)
         (ap (λ n. same n w) (sym (at.stand j (omega arith))) ∙ sym asked ∙ is)
 
-  pub none_place : (j count : ℕ) → Others names lengths w j → j ≤ count → count ≤ j → (l : List Field) → NamesAt names lengths l → length l ≡ count → j ≡ place_in l w
-  none_place j count others low high l at long =
-      let all : j ≡ length l = omega arith in
-      all ∙ place_none l w (λ i lt. ap (λ n. same n w) (sym (at.stand i lt)) ∙ others.other i (omega arith))
+  pub none_place : (j count : ℕ) → Others names lengths w j → count ≤ j → (l : List Field) → NamesAt names lengths l → length l ≡ count → count ≡ place_in l w
+  none_place j count others high l at long =
+      sym long ∙ place_none l w (λ i lt. ap (λ n. same n w) (sym (at.stand i lt)) ∙ others.other i (omega arith))
 
 -- A part of a list, from what stands up to its end.
 part_is : (l : List ℕ) (a k : ℕ) → a ≤ length l → take k (drop a l) ≡ drop a (take (a + k) l)
@@ -194,7 +192,7 @@ place_last (n ∷ l) w none =
     rw (same_neither w n this) (ap suc (place_last l w rest))
 
 module _ (l : List Field) (n : Field) (names lengths : List ℕ) (j count : ℕ) (at : NamesAt names lengths l) (is : length l ≡ count) (found : j ≡ place_in l n) where
-  pub named_known : j < count → NamedAs l n names lengths (At j count)
+  pub named_known : j < count → NamedAs l n names lengths (Some (j, count))
   named_known less =
       let known = place_in_lem l n (omega arith) in
       record { told = rw known (at, found, sym is, less, rw is at at.slots_in) }
@@ -202,10 +200,10 @@ module _ (l : List Field) (n : Field) (names lengths : List ℕ) (j count : ℕ)
   unknown : count ≤ j → is_in n l ≡ false
   unknown over = place_out l n (omega arith)
 
-  pub named_full : count ≤ j → count ≡ 64 → NamedAs l n names lengths Full
+  pub named_full : count ≤ j → count ≡ 64 → NamedAs l n names lengths None
   named_full over full = record { told = (is ∙ full, unknown over) }
 
-  pub named_new : count ≤ j → (names' lengths' : List ℕ) → NamesAt names' lengths' (l ++ (n ∷ [])) → NamedAs l n names' lengths' (At count (count + 1))
+  pub named_new : count ≤ j → (names' lengths' : List ℕ) → NamesAt names' lengths' (l ++ (n ∷ [])) → NamedAs l n names' lengths' (Some (count, count + 1))
   named_new over names' lengths' added =
       let more : length (l ++ (n ∷ [])) ≡ count + 1 = length-append l (n ∷ []) ∙ omega arith in
       record { told = rw (unknown over) (added, sym is ∙ place_last l n (unknown over), sym more, omega arith, rw more at added.slots_in) }

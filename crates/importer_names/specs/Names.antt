@@ -1,11 +1,9 @@
 -- A table of names: the name number j stands from the place 16 j on, and its length in a second table.
-use Rattle.std.specs.Prelude.{ℕ, ◌*◌, ◌≤◌, ◌<◌, ◌≡◌, List, [], false, length, get_or, take, drop}
+use Rattle.std.specs.Prelude.{ℕ, ◌*◌, ◌≤◌, ◌<◌, ◌≡◌, List, [], false, length, get_or, take, drop, Option, None, Some}
 use Rattle.rules.specs.Sizes.{most_states}
 use Rattle.rules.specs.Words.{is_in}
 use Rattle.rules.specs.Kiss2.{Field, place_in}
 use Rattle.theory.specs.Kiss2Lines.{with_name}
-use Rattle.importer_names.specs.declared.Naming.{Naming}
-use Rattle.importer_names.specs.declared.Naming.TheVariants.{Full, At}
 
 abbrev pub name_at : List ℕ → List ℕ → ℕ → Field
 name_at names lengths j = take (get_or lengths j 0) (drop (j * 16) names)
@@ -30,10 +28,10 @@ pub record NamesAt (names lengths : List ℕ) (l : List Field) : Type 0 where
   pub stand : (j : ℕ) → j < length l → name_at names lengths j ≡ get_or l j []
 
 -- what the name n came to, where the names were l
-abbrev pub NamingOf : List Field → Field → List ℕ → List ℕ → Naming → Type 0
-NamingOf l n names lengths Full = (length l ≡ most_states) × (is_in n l ≡ false)
-NamingOf l n names lengths (At j m) =
+abbrev pub NamingOf : List Field → Field → List ℕ → List ℕ → Option (ℕ × ℕ) → Type 0
+NamingOf l n names lengths None = (length l ≡ most_states) × (is_in n l ≡ false)
+NamingOf l n names lengths (Some (j, m)) =
     NamesAt names lengths (with_name l n) × (j ≡ place_in (with_name l n) n) × (m ≡ length (with_name l n)) × (j < m) × SlotsIn names lengths m
 
-pub record NamedAs (l : List Field) (n : Field) (names lengths : List ℕ) (r : Naming) : Type 0 where
+pub record NamedAs (l : List Field) (n : Field) (names lengths : List ℕ) (r : Option (ℕ × ℕ)) : Type 0 where
   pub told : NamingOf l n names lengths r

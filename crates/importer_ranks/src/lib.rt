@@ -1,5 +1,6 @@
 // The numbers of a text's states (docs/KISS2.md, "What comes of it"). A table holds them: for each name, by its number among the names as
-// they were met, one more than its number as a state, or 0 where it has none yet.
+// they were met, one more than its number as a state, or 0 where it has none yet. So the table is a list of numbers, of
+// which the unit is written.
 #![tactic(auto)]
 
 ghost use Rattle.std.specs.Prelude.{◌≡◌, List, ◌++◌, not, ◌+◌, ◌≤◌, ◌<◌, length};
@@ -38,10 +39,8 @@ pub fn give_ranks(ranks: &mut [u8], count: usize, ranked: usize) -> usize
     ensures { (names order : List Field) → RanksAt ranks.old names order → distinct names ≡ names → count ≡ length names → ranked ≡ length order → RanksAt ranks.new names (order ++ keep (λ n. not (is_in n order)) names) × (result ≡ length names) }
 {
     let mut all = ranked;
-    let mut j = 0;
-    while j < count {
+    for j in 0..count {
         all = give_rank(ranks, j, all);
-        j += 1;
     }
     all
 }

@@ -21,13 +21,13 @@ use Rattle.importer_terms.proofs.Naming.{entries_none, terms_none}
 use Rattle.importer_ranks.specs.Ranks.{unranked, order_of}
 use Rattle.importer_ranks.proofs.Ranking.{ranks_none, ranks_few}
 use Rattle.importer_reading.specs.declared.Progress.{Progress}
-use Rattle.importer_reading.specs.declared.Step.{Step}
-use Rattle.importer_reading.specs.declared.Step.TheVariants.{Bad, Contradicts, Goes}
-use Rattle.importer_reading.specs.declared.LinesRead.TheVariants.{Bad as BadAt, Contradicts as ContradictsAt, Read}
+use Rattle.importer_reading.specs.declared.LineFault.{LineFault}
+use Rattle.importer_reading.specs.declared.LineFault.TheVariants.{Bad, Contradicts}
+use Rattle.std.specs.Prelude.{Result, Ok, Err}
 use Rattle.importer_reading.specs.Both.{SomeNames}
 use Rattle.importer_reading.specs.Held.{Held, SomeSaid, SomeHeld, StepOf, Stepped}
 use Rattle.importer_reading.specs.Terms.{TermFields}
-use Rattle.importer_reading.specs.Lines.{ReadAs}
+use Rattle.importer_reading.specs.Lines.{refusal_of, ReadAs}
 use Rattle.importer_reading.proofs.Following.{held_same}
 
 -- what the lines that were read give to whoever asks for names and numbers
@@ -55,15 +55,15 @@ term_fields as_term =
       is_output = as_term.is_an_output;
     }
 
-pub said_so : {before : List Says} {names lengths nexts outputs ranks : List ℕ} {r : Step} {says s : Says} → says ≡ s → Stepped before s names lengths nexts outputs ranks r
+pub said_so : {before : List Says} {names lengths nexts outputs ranks : List ℕ} {r : Result Progress LineFault} {says s : Says} → says ≡ s → Stepped before s names lengths nexts outputs ranks r
     → Stepped before says names lengths nexts outputs ranks r
 said_so is stepped = rw is stepped
 
-pub bad_step : (before : List Says) (names lengths nexts outputs ranks : List ℕ) → Stepped before bad names lengths nexts outputs ranks Bad
+pub bad_step : (before : List Says) (names lengths nexts outputs ranks : List ℕ) → Stepped before bad names lengths nexts outputs ranks (Err Bad)
 bad_step before names lengths nexts outputs ranks = record { told = refl }
 
 pub skipped_goes : (before : List Says) (x : Progress) (names lengths nexts outputs ranks : List ℕ) → Held before x names lengths nexts outputs ranks
-    → Stepped before skipped names lengths nexts outputs ranks (Goes x)
+    → Stepped before skipped names lengths nexts outputs ranks (Ok x)
 skipped_goes before x names lengths nexts outputs ranks held =
     let at = held.counted in
     let counts : CountsAt (before ++ (skipped ∷ [])) x.counts =
@@ -131,7 +131,7 @@ reading_start s names lengths nexts outputs ranks x room room' no_nexts no_outpu
     }
 
 module _ (s names lengths nexts outputs ranks : List ℕ) (x : Progress) (line from : ℕ) (reading : Reading s names lengths nexts outputs ranks x line from) where
-  pub read_done : length s ≤ from → ReadAs s names lengths nexts outputs ranks (Read x line)
+  pub read_done : length s ≤ from → ReadAs s names lengths nexts outputs ranks (Ok (x, line))
   unfolding read_lines
   read_done over =
       let none : lines_of (drop from s) ≡ [] = lines_none s from over in
@@ -153,7 +153,7 @@ module _ (s names lengths nexts outputs ranks : List ℕ) (x : Progress) (line f
           few = omega (arith, terms_few reading.before, reading.held.counted.terms, reading.counted, reading.behind);
         }
 
-    module _ (stop : ℕ) (ends : LineEnd s from stop) (names' lengths' nexts' outputs' ranks' : List ℕ) (r : Step)
+    module _ (stop : ℕ) (ends : LineEnd s from stop) (names' lengths' nexts' outputs' ranks' : List ℕ) (r : Result Progress LineFault)
         (stepped : Stepped reading.before (line_says (part_at s from stop)) names' lengths' nexts' outputs' ranks' r) where
       rest : lines_of (drop from s) ≡ part_at s from stop ∷ lines_of (drop (stop + 1) s)
       rest = lines_next s from stop less ends
@@ -164,19 +164,23 @@ module _ (s names lengths nexts outputs ranks : List ℕ) (x : Progress) (line f
       unfolding read_lines
       read_is = reading.left ∙ rw rest
 
-      pub read_bad : r ≡ Bad → ReadAs s names' lengths' nexts' outputs' ranks' (BadAt line)
+      read_bad : r ≡ Err Bad → ReadAs s names' lengths' nexts' outputs' ranks' (Err (BadLine line))
       read_bad is =
-          let told : StepOf reading.before (line_says (part_at s from stop)) names' lengths' nexts' outputs' ranks' Bad = rw is at stepped.told in
+          let told : StepOf reading.before (line_says (part_at s from stop)) names' lengths' nexts' outputs' ranks' (Err Bad) = rw is at stepped.told in
           record { told = read_is ∙ rw told }
 
-      pub read_contradicts : r ≡ Contradicts → ReadAs s names' lengths' nexts' outputs' ranks' (ContradictsAt line)
+      read_contradicts : r ≡ Err Contradicts → ReadAs s names' lengths' nexts' outputs' ranks' (Err (Contradiction line))
       read_contradicts is =
-          let told : StepOf reading.before (line_says (part_at s from stop)) names' lengths' nexts' outputs' ranks' Contradicts = rw is at stepped.told in
+          let told : StepOf reading.before (line_says (part_at s from stop)) names' lengths' nexts' outputs' ranks' (Err Contradicts) = rw is at stepped.told in
           record { told = read_is ∙ rw (told.0, told.1) }
 
-      pub read_goes : (y : Progress) → r ≡ Goes y → Reading s names' lengths' nexts' outputs' ranks' y (line + 1) (stop + 1)
+      pub read_wrong : (fault : LineFault) → r ≡ Err fault → ReadAs s names' lengths' nexts' outputs' ranks' (Err (refusal_of fault line))
+      read_wrong Bad is = read_bad is
+      read_wrong Contradicts is = read_contradicts is
+
+      pub read_goes : (y : Progress) → r ≡ Ok y → Reading s names' lengths' nexts' outputs' ranks' y (line + 1) (stop + 1)
       read_goes y is =
-          let told : StepOf reading.before (line_says (part_at s from stop)) names' lengths' nexts' outputs' ranks' (Goes y) = rw is at stepped.told in
+          let told : StepOf reading.before (line_says (part_at s from stop)) names' lengths' nexts' outputs' ranks' (Ok y) = rw is at stepped.told in
           let next : line + 1 ≡ suc line = omega arith in
           record {
             before = reading.before ++ (line_says (part_at s from stop) ∷ []);

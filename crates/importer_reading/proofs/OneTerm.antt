@@ -1,5 +1,5 @@
 -- Laws of a line that says a term.
-use Prim.Native.Nat.{ℕ, zero, suc, ◌-◌, ◌≤◌}
+use Prim.Native.Nat.{ℕ, suc, ◌-◌, ◌≤◌}
 use native.Mathlib.Omega.{arith}
 use mathlib.Core.Path.{◌≡◌, refl, sym, ap, ◌∙◌, subst}
 use mathlib.Core.Logic.{inl, inr}
@@ -21,9 +21,8 @@ use Rattle.importer_lines.specs.declared.Part.{Part}
 use Rattle.importer_lines.specs.Parts.{bytes_at, FieldIn}
 use Rattle.importer_says.specs.Said.{NameIn}
 use Rattle.importer_counts.specs.declared.Counts.{Counts}
-use Rattle.importer_counts.specs.declared.Counting.{Counting}
-use Rattle.importer_counts.specs.declared.Counting.TheVariants.{Bad as NotCounted, Goes as Counted-to}
-use Rattle.importer_counts.specs.Counts.{listed, CountsAt, term_fits, TermCountedAs, TermCounted}
+use Rattle.std.specs.Prelude.{Option, None, Some, Ok, Err, option_to_list, unwrap_or}
+use Rattle.importer_counts.specs.Counts.{CountsAt, term_fits, TermCountedAs, TermCounted}
 use Rattle.importer_counts.proofs.OneMore.{same_number}
 use Rattle.importer_names.proofs.Table.{part_long}
 use Rattle.importer_terms.specs.declared.NumberedTerm.{NumberedTerm}
@@ -37,14 +36,10 @@ use Rattle.importer_ranks.proofs.Ranking.{ranks_more}
 use Rattle.importer_ranks.proofs.Ordering.{order_more, names_more}
 use Rattle.importer_reading.specs.declared.Progress.{Progress}
 use Rattle.importer_reading.specs.declared.TermParts.{TermParts}
-use Rattle.importer_reading.specs.declared.Step.TheVariants.{Bad, Contradicts, Goes}
-use Rattle.importer_reading.specs.declared.BothNamed.{BothNamed}
-use Rattle.importer_reading.specs.declared.BothNamed.TheVariants.{Full as NoRoom, At as Both}
-use Rattle.importer_reading.specs.declared.NamedTerm.{NamedTerm}
-use Rattle.importer_reading.specs.declared.NamedTerm.TheVariants.{Bad as NotNamed, At as Named}
+use Rattle.importer_reading.specs.declared.LineFault.TheVariants.{Bad, Contradicts}
 use Rattle.importer_reading.specs.Both.{with_both, BothOf, BothAs}
 use Rattle.importer_reading.specs.Held.{Held, Stepped}
-use Rattle.importer_reading.specs.Terms.{TermFields, term_at, NamedOf, NamedTermAs, Ready, EnteredOf, EnteredAs}
+use Rattle.importer_reading.specs.Terms.{TermFields, term_at, NamedTerm, NamedOf, NamedTermAs, Ready, EnteredOf, EnteredAs}
 use Rattle.importer_reading.proofs.Following.{listed_same}
 use Rattle.importer_reading.proofs.TwoNames.{with_longer}
 
@@ -59,9 +54,9 @@ and_last true true true false e = refl
 abbrev few_states : List Says → Term → Bool
 few_states before t = all (leb (length (names_in (before ++ (term t ∷ []))))) (most_states ∷ numbers_in (text ".s") before)
 
-in_listed : (n m : ℕ) → n ∈ listed m → n ≡ m
-in_listed n zero here = absurd (Memᴰ.not-nil here)
-in_listed n (suc m) here = Memᴰ.eq_of_singleton here
+in_listed : (n : ℕ) (m : Option ℕ) → n ∈ option_to_list m → n ≡ unwrap_or m 0
+in_listed n None here = absurd (Memᴰ.not-nil here)
+in_listed n (Some m) here = Memᴰ.eq_of_singleton here
 
 pub name_short : {s : List ℕ} {p : Part} → NameIn s p → p.end - p.start ≤ 16
 name_short {s = s} {p = p} name =
@@ -104,49 +99,49 @@ module _ (s : List ℕ) (before : List Says) (x : Counts) (counts_at : CountsAt 
       (any (eqb (length (bytes_at s parts.output))) (numbers_in (text ".o") before)) (all (leb (suc (length (terms_in before)))) (numbers_in (text ".p") before))
       (few_states before (term_at s parts))
 
-  module _ (r : Counting) (counted : TermCounted before (term_at s parts) r) where
-    not_fitting : r ≡ NotCounted → may_follow before (term (term_at s parts)) ≡ false
+  module _ (r : Option Counts) (counted : TermCounted before (term_at s parts) r) where
+    not_fitting : r ≡ None → may_follow before (term (term_at s parts)) ≡ false
     not_fitting is = let told : term_fits before (term_at s parts) ≡ false = rw is at counted.told in follows_is ∙ rw told
 
-    pub term_misfits : r ≡ NotCounted → (names lengths : List ℕ) → NamedTermAs s before (term_at s parts) names lengths NotNamed
+    pub term_misfits : r ≡ None → (names lengths : List ℕ) → NamedTermAs s before (term_at s parts) names lengths None
     term_misfits is names lengths = record { told = not_fitting is }
 
-    module _ (y : Counts) (is : r ≡ Counted-to y) (names lengths : List ℕ) (b : BothNamed)
+    module _ (y : Counts) (is : r ≡ Some y) (names lengths : List ℕ) (b : Option (ℕ × ℕ × ℕ))
         (named : BothAs (names_in before) (bytes_at s parts.current) (bytes_at s parts.next) names lengths b) where
-      fits : TermCountedAs before (term_at s parts) (Counted-to y)
+      fits : TermCountedAs before (term_at s parts) (Some y)
       fits = rw is at counted.told
 
       after : names_in (before ++ (term (term_at s parts) ∷ [])) ≡ with_both (names_in before) (bytes_at s parts.current) (bytes_at s parts.next)
       after = names_more before (term_at s parts)
 
-      pub no_room : b ≡ NoRoom → NamedTermAs s before (term_at s parts) names lengths NotNamed
+      pub no_room : b ≡ None → NamedTermAs s before (term_at s parts) names lengths None
       no_room full =
-          let told : BothOf (names_in before) (bytes_at s parts.current) (bytes_at s parts.next) names lengths NoRoom = rw full at named.told in
+          let told : BothOf (names_in before) (bytes_at s parts.current) (bytes_at s parts.next) names lengths None = rw full at named.told in
           let over : leb (length (names_in (before ++ (term (term_at s parts) ∷ [])))) most_states ≡ false = lt-leb (length (names_in (before ++ (term (term_at s parts) ∷ [])))) most_states (rw after told) in
           record { told = follows_is ∙ rw (fits.0, over) }
 
-      module _ (one other many : ℕ) (at : b ≡ Both one other many) where
-        told : BothOf (names_in before) (bytes_at s parts.current) (bytes_at s parts.next) names lengths (Both one other many)
+      module _ (one other many : ℕ) (at : b ≡ Some (one, other, many)) where
+        told : BothOf (names_in before) (bytes_at s parts.current) (bytes_at s parts.next) names lengths (Some (one, other, many))
         told = rw at at named.told
 
         so_many : many ≡ length (names_in (before ++ (term (term_at s parts) ∷ [])))
         so_many = rw after told.3
 
-        few_is : (v : Bool) → v ≡ all (leb many) (listed y.state_count) → few_states before (term_at s parts) ≡ v
+        few_is : (v : Bool) → v ≡ all (leb many) (option_to_list y.state_count) → few_states before (term_at s parts) ≡ v
         few_is v asked =
             let room : leb many most_states ≡ true = le-leb many most_states (omega (arith, told.0.slots_in.few, told.3)) in
-            let said : numbers_in (text ".s") before ≡ listed y.state_count = sym (same_number before (term (term_at s parts)) (text ".s") refl) ∙ fits.1.state_count in
+            let said : numbers_in (text ".s") before ≡ option_to_list y.state_count = sym (same_number before (term (term_at s parts)) (text ".s") refl) ∙ fits.1.state_count in
             ap (λ (n : ℕ). all (leb n) (most_states ∷ numbers_in (text ".s") before)) (sym so_many) ∙ rw (room, said) (sym asked)
 
-        module _ (v : Bool) (asked : v ≡ all (leb many) (listed y.state_count)) where
-          pub too_many : not v ≡ true → NamedTermAs s before (term_at s parts) names lengths NotNamed
+        module _ (v : Bool) (asked : v ≡ all (leb many) (option_to_list y.state_count)) where
+          pub too_many : not v ≡ true → NamedTermAs s before (term_at s parts) names lengths None
           too_many over = record { told = follows_is ∙ rw (fits.0, few_is v asked, not-true v over) }
 
           module _ (good : not v ≡ false) where
             follows : may_follow before (term (term_at s parts)) ≡ true
             follows = follows_is ∙ rw (fits.0, few_is v asked, not-false v good)
 
-            bits_said : (length (bytes_at s parts.cube) ≡ x.input_bits) × (length (bytes_at s parts.output) ≡ x.output_bits)
+            bits_said : (length (bytes_at s parts.cube) ≡ unwrap_or x.input_bits 0) × (length (bytes_at s parts.output) ≡ unwrap_or x.output_bits 0)
             bits_said =
                 let may = (may_follow_lem before (term (term_at s parts))).0 follows in
                 (in_listed _ _ (rw counts_at.input_bits at may.inputs), in_listed _ _ (rw counts_at.output_bits at may.outputs))
@@ -159,7 +154,7 @@ module _ (s : List ℕ) (before : List Says) (x : Counts) (counts_at : CountsAt 
                   short = omega (arith, field_long fields.output_in, bits_said.1, counts_at.few_outputs);
                 }
 
-            pub term_ready : (w : ℕ) → Ready s (Named y (record { cube = parts.cube; current = one; next = other; output = w }) many)
+            pub term_ready : (w : ℕ) → Ready s (Some (y, record { cube = parts.cube; current = one; next = other; output = w }, many))
             term_ready w =
                 record {
                   told = record {
@@ -174,7 +169,7 @@ module _ (s : List ℕ) (before : List Says) (x : Counts) (counts_at : CountsAt 
                 }
 
             pub term_named : (w : ℕ) → w ≡ output_value (bytes_at s parts.output)
-                → NamedTermAs s before (term_at s parts) names lengths (Named y (record { cube = parts.cube; current = one; next = other; output = w }) many)
+                → NamedTermAs s before (term_at s parts) names lengths (Some (y, record { cube = parts.cube; current = one; next = other; output = w }, many))
             term_named w value =
                 let bits : y.output_bits ≡ x.output_bits =
                 listed_same _ _ (sym fits.1.output_bits ∙ same_number before (term (term_at s parts)) (text ".o") refl ∙ counts_at.output_bits) in
@@ -191,32 +186,32 @@ module _ (s : List ℕ) (before : List Says) (x : Counts) (counts_at : CountsAt 
                       next_in = rw after (with_itself (with_name (names_in before) (bytes_at s parts.current)) (bytes_at s parts.next));
                       next_is = rw after told.2;
                       is_output = fields.is_output;
-                      long = bits_said.1 ∙ sym bits;
+                      long = bits_said.1 ∙ sym (ap (λ o. unwrap_or o 0) bits);
                       output_is = value;
                     },
                   );
                 }
 
-pub ready_in : {s : List ℕ} {r : NamedTerm} {y : Counts} {n : NumberedTerm} {many : ℕ} → Ready s r → r ≡ Named y n many → TermIn s n
+pub ready_in : {s : List ℕ} {r : Option NamedTerm} {y : Counts} {n : NumberedTerm} {many : ℕ} → Ready s r → r ≡ Some (y, n, many) → TermIn s n
 ready_in ready is = rw is at ready.told
 
 -- what the line comes to, once the term is named
 module _ (before : List Says) (x : Progress) (names lengths nexts outputs ranks : List ℕ) (held : Held before x names lengths nexts outputs ranks)
-    (s : List ℕ) (t : Term) (names' lengths' : List ℕ) (r : NamedTerm) (named : NamedTermAs s before t names' lengths' r) where
-  pub term_bad : r ≡ NotNamed → (nexts' outputs' ranks' : List ℕ) → Stepped before (term t) names' lengths' nexts' outputs' ranks' Bad
+    (s : List ℕ) (t : Term) (names' lengths' : List ℕ) (r : Option NamedTerm) (named : NamedTermAs s before t names' lengths' r) where
+  pub term_bad : r ≡ None → (nexts' outputs' ranks' : List ℕ) → Stepped before (term t) names' lengths' nexts' outputs' ranks' (Err Bad)
   term_bad is nexts' outputs' ranks' = record { told = rw is at named.told }
 
-  module _ (y : Counts) (n : NumberedTerm) (many : ℕ) (is : r ≡ Named y n many) where
-    as_told : NamedOf s before t names' lengths' (Named y n many)
+  module _ (y : Counts) (n : NumberedTerm) (many : ℕ) (is : r ≡ Some (y, n, many)) where
+    as_told : NamedOf s before t names' lengths' (Some (y, n, many))
     as_told = rw is at named.told
 
     names_after : names_in (before ++ (term t ∷ [])) ≡ with_both (names_in before) t.current t.next
     names_after = names_more before t
 
-    pub term_over : TermOver s n (names_in (before ++ (term t ∷ []))) y.output_bits t
+    pub term_over : TermOver s n (names_in (before ++ (term t ∷ []))) (unwrap_or y.output_bits 0) t
     term_over = as_told.4
 
-    pub terms_over : TermsOver (names_in (before ++ (term t ∷ []))) y.output_bits (terms_in before)
+    pub terms_over : TermsOver (names_in (before ++ (term t ∷ []))) (unwrap_or y.output_bits 0) (terms_in before)
     terms_over =
         let bits : y.output_bits ≡ x.counts.output_bits =
         listed_same _ _ (sym as_told.1.output_bits ∙ same_number before (term t) (text ".o") refl ∙ held.counted.output_bits) in
@@ -234,7 +229,7 @@ module _ (before : List Says) (x : Progress) (names lengths nexts outputs ranks 
         rw names_after (ranks_with (with_name (names_in before) t.current) t.next ranks (order_of before) (ranks_with (names_in before) t.current ranks (order_of before) held.ranked room') room)
 
     module _ (nexts' outputs' : List ℕ) (e : Bool) (entered : EnteredAs nexts' outputs' (names_in (before ++ (term t ∷ []))) (terms_in before) t e) where
-      pub term_contradicts : e ≡ true → (ranks' : List ℕ) → Stepped before (term t) names' lengths' nexts' outputs' ranks' Contradicts
+      pub term_contradicts : e ≡ true → (ranks' : List ℕ) → Stepped before (term t) names' lengths' nexts' outputs' ranks' (Err Contradicts)
       term_contradicts against ranks' =
           let differs : any (differ t) (terms_in before) ≡ true = rw against at entered.told in
           record { told = (as_told.0, contradicts-term before t ∙ differs) }
@@ -242,7 +237,7 @@ module _ (before : List Says) (x : Progress) (names lengths nexts outputs ranks 
       pub term_goes : e ≡ false → (ranks' : List ℕ) (k : ℕ)
           → ((names order : List Field) (w : Field) → RanksAt ranks names order → w ∈ names → n.current ≡ place_in names w → x.ranked ≡ length order
           → RanksAt ranks' names (with_name order w) × (k ≡ length (with_name order w)))
-          → Stepped before (term t) names' lengths' nexts' outputs' ranks' (Goes (record { counts = y; names = many; ranked = k }))
+          → Stepped before (term t) names' lengths' nexts' outputs' ranks' (Ok (record { counts = y; names = many; ranked = k }))
       term_goes alike ranks' k given =
           let put : EnteredOf nexts' outputs' (names_in (before ++ (term t ∷ []))) (terms_in before) t false = rw alike at entered.told in
           let (ranked_at, counted_k) = given _ (order_of before) t.current ranks_at term_over.current_in term_over.current_is held.so_many in
@@ -256,7 +251,7 @@ module _ (before : List Says) (x : Progress) (names lengths nexts outputs ranks 
                 named = as_told.2;
                 many = as_told.3;
                 entered = subst (λ ts. EntriesAt nexts' outputs' (names_in (before ++ (term t ∷ []))) ts) (sym terms_are) put.1;
-                over = subst (λ ts. TermsOver (names_in (before ++ (term t ∷ []))) y.output_bits ts) (sym terms_are) (terms_more s n _ y.output_bits (terms_in before) t terms_over term_over put.0);
+                over = subst (λ ts. TermsOver (names_in (before ++ (term t ∷ []))) (unwrap_or y.output_bits 0) ts) (sym terms_are) (terms_more s n _ (unwrap_or y.output_bits 0) (terms_in before) t terms_over term_over put.0);
                 ranked = rw (order_more before t) ranked_at;
                 so_many = rw (order_more before t) counted_k;
               },

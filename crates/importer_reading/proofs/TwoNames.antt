@@ -11,10 +11,8 @@ use Rattle.rules.specs.Words.{same, is_in}
 use Rattle.rules.specs.Kiss2.{Field, place_in}
 use Rattle.theory.specs.Lists.{outcome}
 use Rattle.theory.specs.Kiss2Lines.{with_name}
-use Rattle.importer_names.specs.declared.Naming.{Naming}
-use Rattle.importer_names.specs.declared.Naming.TheVariants.{Full, At}
+use Rattle.std.specs.Prelude.{Option, None, Some}
 use Rattle.importer_names.specs.Names.{SlotsIn, NamesAt, NamingOf, NamedAs}
-use Rattle.importer_reading.specs.declared.BothNamed.TheVariants.{Full as NoRoom, At as Both}
 use Rattle.importer_reading.specs.Both.{SomeNames, BothAs}
 
 pub some_slots : {names lengths : List ℕ} {count : ℕ} → SomeNames names lengths count → SlotsIn names lengths count
@@ -41,14 +39,14 @@ place_with l n w less = elim (outcome (is_in n l)) [ inl known ↦ rw known | in
 full_more : (l : List Field) (n : Field) → length l ≡ most_states → is_in n l ≡ false → length (with_name l n) ≡ most_states + 1
 full_more l n full new = rw new (length-append l (n ∷ []) ∙ omega arith)
 
-module _ (l : List Field) (current next : Field) (names lengths : List ℕ) (a : Naming) (named : NamedAs l current names lengths a) where
-  pub first_full : a ≡ Full → (names' lengths' : List ℕ) → BothAs l current next names' lengths' NoRoom
+module _ (l : List Field) (current next : Field) (names lengths : List ℕ) (a : Option (ℕ × ℕ)) (named : NamedAs l current names lengths a) where
+  pub first_full : a ≡ None → (names' lengths' : List ℕ) → BothAs l current next names' lengths' None
   first_full is names' lengths' =
-      let told : NamingOf l current names lengths Full = rw is at named.told in
+      let told : NamingOf l current names lengths None = rw is at named.told in
       record { told = omega (arith, full_more l current told.0 told.1, with_longer (with_name l current) next) }
 
-  module _ (one more : ℕ) (at : a ≡ At one more) where
-    first_told : NamingOf l current names lengths (At one more)
+  module _ (one more : ℕ) (at : a ≡ Some (one, more)) where
+    first_told : NamingOf l current names lengths (Some (one, more))
     first_told = rw at at named.told
 
     pub first_names : NamesAt names lengths (with_name l current)
@@ -60,15 +58,15 @@ module _ (l : List Field) (current next : Field) (names lengths : List ℕ) (a :
     pub first_slots : SlotsIn names lengths more
     first_slots = first_told.4
 
-    module _ (names' lengths' : List ℕ) (b : Naming) (named' : NamedAs (with_name l current) next names' lengths' b) where
-      pub second_full : b ≡ Full → BothAs l current next names' lengths' NoRoom
+    module _ (names' lengths' : List ℕ) (b : Option (ℕ × ℕ)) (named' : NamedAs (with_name l current) next names' lengths' b) where
+      pub second_full : b ≡ None → BothAs l current next names' lengths' None
       second_full is =
-          let told : NamingOf (with_name l current) next names' lengths' Full = rw is at named'.told in
+          let told : NamingOf (with_name l current) next names' lengths' None = rw is at named'.told in
           record { told = omega (arith, full_more (with_name l current) next told.0 told.1) }
 
-      pub both_named : (other all : ℕ) → b ≡ At other all → BothAs l current next names' lengths' (Both one other all)
+      pub both_named : (other all : ℕ) → b ≡ Some (other, all) → BothAs l current next names' lengths' (Some (one, other, all))
       both_named other all is =
-          let told : NamingOf (with_name l current) next names' lengths' (At other all) = rw is at named'.told in
+          let told : NamingOf (with_name l current) next names' lengths' (Some (other, all)) = rw is at named'.told in
           let inside : place_in (with_name l current) current < length (with_name l current) = omega (arith, first_told.1, first_told.2, first_told.3) in
           record {
             told = (

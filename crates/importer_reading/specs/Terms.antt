@@ -1,5 +1,5 @@
 -- Where the fields of a term stand, and what naming and entering it come to.
-use Rattle.std.specs.Prelude.{ℕ, ◌≡◌, List, [], ◌∷◌, ◌++◌, Bool, true, false, length}
+use Rattle.std.specs.Prelude.{ℕ, ◌≡◌, List, [], ◌∷◌, ◌++◌, Bool, true, false, length, Option, None, Some, unwrap_or}
 use Rattle.rules.specs.Lists.{any}
 use Rattle.rules.specs.Kiss2.{Field, Term, Says, term, is_cube, is_output, names_in, may_follow, differ}
 use Rattle.importer_lines.specs.Parts.{bytes_at, FieldIn}
@@ -8,8 +8,8 @@ use Rattle.importer_counts.specs.Counts.{CountsAt}
 use Rattle.importer_names.specs.Names.{NamesAt}
 use Rattle.importer_terms.specs.Entries.{EntriesAt, TermIn, TermOver}
 use Rattle.importer_reading.specs.declared.TermParts.{TermParts}
-use Rattle.importer_reading.specs.declared.NamedTerm.{NamedTerm}
-use Rattle.importer_reading.specs.declared.NamedTerm.TheVariants.{Bad, At}
+use Rattle.importer_counts.specs.declared.Counts.{Counts}
+use Rattle.importer_terms.specs.declared.NumberedTerm.{NumberedTerm}
 
 -- the parts are fields of a term
 pub record TermFields (s : List ℕ) (parts : TermParts) : Type 0 where
@@ -24,22 +24,26 @@ abbrev pub term_at : List ℕ → TermParts → Term
 term_at s parts =
     record { cube = bytes_at s parts.cube; current = bytes_at s parts.current; next = bytes_at s parts.next; output = bytes_at s parts.output }
 
--- what naming a term came to, behind the lines said `before`
-abbrev pub NamedOf : List ℕ → List Says → Term → List ℕ → List ℕ → NamedTerm → Type 0
-NamedOf s before t names lengths Bad = may_follow before (term t) ≡ false
-NamedOf s before t names lengths (At y x all) =
-    (may_follow before (term t) ≡ true) × CountsAt (before ++ (term t ∷ [])) y × NamesAt names lengths (names_in (before ++ (term t ∷ [])))
-    × (all ≡ length (names_in (before ++ (term t ∷ [])))) × TermOver s x (names_in (before ++ (term t ∷ []))) y.output_bits t
+-- a term that is named, with what was counted and how many names there are
+abbrev pub NamedTerm : Type 0
+NamedTerm = Counts × NumberedTerm × ℕ
 
-pub record NamedTermAs (s : List ℕ) (before : List Says) (t : Term) (names lengths : List ℕ) (r : NamedTerm) : Type 0 where
+-- what naming a term came to, behind the lines said `before`
+abbrev pub NamedOf : List ℕ → List Says → Term → List ℕ → List ℕ → Option NamedTerm → Type 0
+NamedOf s before t names lengths None = may_follow before (term t) ≡ false
+NamedOf s before t names lengths (Some (y, x, all)) =
+    (may_follow before (term t) ≡ true) × CountsAt (before ++ (term t ∷ [])) y × NamesAt names lengths (names_in (before ++ (term t ∷ [])))
+    × (all ≡ length (names_in (before ++ (term t ∷ [])))) × TermOver s x (names_in (before ++ (term t ∷ []))) (unwrap_or y.output_bits 0) t
+
+pub record NamedTermAs (s : List ℕ) (before : List Says) (t : Term) (names lengths : List ℕ) (r : Option NamedTerm) : Type 0 where
   pub told : NamedOf s before t names lengths r
 
 -- a term that is named may be entered
-abbrev pub ReadyOf : List ℕ → NamedTerm → Type 0
-ReadyOf s Bad = Unit {0}
-ReadyOf s (At y x all) = TermIn s x
+abbrev pub ReadyOf : List ℕ → Option NamedTerm → Type 0
+ReadyOf s None = Unit {0}
+ReadyOf s (Some (y, x, all)) = TermIn s x
 
-pub record Ready (s : List ℕ) (r : NamedTerm) : Type 0 where
+pub record Ready (s : List ℕ) (r : Option NamedTerm) : Type 0 where
   pub told : ReadyOf s r
 
 -- what entering a term came to, where the tables held `terms`

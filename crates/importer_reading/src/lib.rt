@@ -1,5 +1,6 @@
 // The lines of a text one after the other (document 02, L2; docs/KISS2.md): what each adds to what was said before it, or the line that
-// may not follow, or contradicts. Names, entries and numbers of states are kept in five tables that the caller lends.
+// may not follow, or contradicts. Names, entries and numbers of states are kept in five tables that the caller lends, one by one:
+// a line is lent those that it may change.
 #![tactic(auto)]
 
 mod directives;
@@ -29,32 +30,9 @@ struct TermParts {
     output: Part,
 }
 
-// 19, 20, or what was said with the line.
+// What is wrong with a line: it may not follow those before it, or it contradicts them.
 #[derive(Clone, Copy)]
-pub enum Step {
+pub enum LineFault {
     Bad,
     Contradicts,
-    Goes(Progress),
-}
-
-// No room for both names of a term; or their numbers, the current state's first, and how many names there are.
-#[derive(Clone, Copy)]
-enum BothNamed {
-    Full,
-    At(usize, usize, usize),
-}
-
-// 19; or what was counted with the term, the term, and how many names there are.
-#[derive(Clone, Copy)]
-enum NamedTerm {
-    Bad,
-    At(Counts, NumberedTerm, usize),
-}
-
-// The line of 19 or 20; or what was said, and the number of the line behind the last.
-#[derive(Clone, Copy)]
-pub enum LinesRead {
-    Bad(usize),
-    Contradicts(usize),
-    Read(Progress, usize),
 }

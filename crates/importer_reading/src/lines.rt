@@ -7,14 +7,15 @@ ghost use Rattle.importer_counts.specs.Counts.{CountsAt};
 ghost use Rattle.importer_terms.specs.Entries.{unsaid};
 ghost use Rattle.importer_ranks.specs.Ranks.{unranked};
 ghost use Rattle.importer_reading.specs.Held.{Held, SomeHeld, Stepped};
-ghost use Rattle.importer_reading.specs.Lines.{ReadAs};
+ghost use Rattle.importer_reading.specs.Lines.{refusal_of, ReadAs};
 
 use crate::directives::{follow_end, follow_number, follow_reset};
 use crate::terms::follow_term;
-use crate::{LinesRead, Progress, Step, TermParts};
+use crate::{LineFault, Progress, TermParts};
 use importer_counts::no_counts;
 use importer_lines::line_end;
 use importer_says::{LineSaid, line_said};
+use rules::Refusal;
 
 // One line more, in text[from..end].
 fn follow_line(
@@ -27,13 +28,13 @@ fn follow_line(
     outputs: &mut [u8],
     ranks: &mut [u8],
     x: Progress,
-) -> Step
+) -> Result<Progress, LineFault>
     requires from_le_end { (from ≤ end) × (end ≤ length text.now) }
     requires some_held { SomeHeld x names.old lengths.old nexts.old outputs.old ranks.old }
     ensures { (before : List Says) → Held before x names.old lengths.old nexts.old outputs.old ranks.old → Stepped before (line_says (part_at text.now from end)) names.new lengths.new nexts.new outputs.new ranks.new result }
 {
     match line_said(text, from, end) {
-        LineSaid::Skipped => Step::Goes(x),
+        LineSaid::Skipped => Ok(x),
         LineSaid::Number(directive, n) => follow_number(x, directive, n),
         LineSaid::Reset(part) => follow_reset(text, part, names, lengths, ranks, x),
         LineSaid::Term(cube, current, next, output) => {
@@ -46,7 +47,17 @@ fn follow_line(
             follow_term(text, term, names, lengths, nexts, outputs, ranks, x)
         }
         LineSaid::End => follow_end(x),
-        LineSaid::Bad => Step::Bad,
+        LineSaid::Bad => Err(LineFault::Bad),
+    }
+}
+
+// 19 or 20 of a line.
+fn refusal_of(fault: LineFault, line: usize) -> Refusal
+    ensures { result ≡ refusal_of fault line }
+{
+    match fault {
+        LineFault::Bad => Refusal::BadLine(line),
+        LineFault::Contradicts => Refusal::Contradiction(line),
     }
 }
 
@@ -61,7 +72,7 @@ fn nothing_said() -> Progress
     }
 }
 
-// Lines are counted from 1. The tables are empty at first.
+// What was said, and the number of the line behind the last. Lines are counted from 1. The tables are empty at first.
 pub fn read_lines(
     text: &[u8],
     names: &mut [u8],
@@ -69,7 +80,7 @@ pub fn read_lines(
     nexts: &mut [u8],
     outputs: &mut [u8],
     ranks: &mut [u8],
-) -> LinesRead
+) -> Result<(Progress, usize), Refusal>
     requires text_len_bound { length text.now ≤ most_text_bytes }
     requires names_len { (length names.old ≡ 1024) × (length lengths.old ≡ most_states) }
     requires nexts_value { (nexts.old ≡ unsaid) × (outputs.old ≡ unsaid) × (ranks.old ≡ unranked) }
@@ -78,21 +89,15 @@ pub fn read_lines(
     let mut x = nothing_said();
     let mut line = 1;
     let mut from = 0;
+    // Each line begins behind the end of the one before it.
     while from < text.len() {
         let end = line_end(text, from);
         match follow_line(text, from, end, names, lengths, nexts, outputs, ranks, x) {
-            Step::Bad => {
-                return LinesRead::Bad(line);
-            }
-            Step::Contradicts => {
-                return LinesRead::Contradicts(line);
-            }
-            Step::Goes(y) => {
-                x = y;
-            }
+            Ok(y) => x = y,
+            Err(fault) => return Err(refusal_of(fault, line)),
         }
         line += 1;
         from = end + 1;
     }
-    LinesRead::Read(x, line)
+    Ok((x, line))
 }

@@ -7,8 +7,8 @@ ghost use Rattle.importer_reading.specs.Held.{Held, SomeSaid, Stepped};
 ghost use Rattle.importer_reading.specs.Terms.{TermFields, term_at, NamedTermAs, Ready, EnteredAs};
 
 use crate::naming::number_both;
-use crate::{BothNamed, NamedTerm, Progress, Step, TermParts};
-use importer_counts::{Counting, allows, count_term};
+use crate::{LineFault, Progress, TermParts};
+use importer_counts::{Counts, allows, count_term};
 use importer_lines::Part;
 use importer_ranks::give_rank;
 use importer_terms::{NumberedTerm, contradicts, output_value, put_term};
@@ -20,45 +20,41 @@ fn size(part: Part) -> usize
     part.end - part.start
 }
 
-// Rules 6, 9, 10 and 11: the term among the lines before it, and its names among theirs.
+// Rules 6, 9, 10 and 11: the term among the lines before it, and its names among theirs. What was counted with it, the term, and how many
+// names there are then; nothing where it may not follow.
 fn name_term(
     text: &[u8],
     parts: TermParts,
     names: &mut [u8],
     lengths: &mut [u8],
     x: Progress,
-) -> NamedTerm
+) -> Option<(Counts, NumberedTerm, usize)>
     requires term_fields { TermFields text.now parts }
     requires some_said { SomeSaid x names.old lengths.old }
     ensures named_term_as { (before : List Says) (nexts outputs ranks : List ℕ) → Held before x names.old lengths.old nexts outputs ranks → NamedTermAs text.now before (term_at text.now parts) names.new lengths.new result }
     ensures ready { Ready text.now result }
 {
-    match count_term(x.counts, size(parts.cube), size(parts.output)) {
-        Counting::Bad => NamedTerm::Bad,
-        Counting::Goes(counts) => match number_both(
-            text,
-            parts.current,
-            parts.next,
-            names,
-            lengths,
-            x.names,
-        ) {
-            BothNamed::Full => NamedTerm::Bad,
-            BothNamed::At(current, next, all) => {
-                if !allows(counts.state_count, all) {
-                    return NamedTerm::Bad;
-                }
-                let cube = parts.cube;
-                let term = NumberedTerm {
-                    cube,
-                    current,
-                    next,
-                    output: output_value(text, parts.output),
-                };
-                NamedTerm::At(counts, term, all)
-            }
-        },
+    let counts = count_term(x.counts, size(parts.cube), size(parts.output))?;
+    let (current, next, all) = number_both(
+        text,
+        parts.current,
+        parts.next,
+        names,
+        lengths,
+        x.names,
+    )?;
+    if !allows(counts.state_count, all) {
+        return None;
     }
+    let cube = parts.cube;
+    let output = output_value(text, parts.output);
+    let term = NumberedTerm {
+        cube,
+        current,
+        next,
+        output,
+    };
+    Some((counts, term, all))
 }
 
 // Rule 12: whether the term contradicts an earlier one. Its entries are written where it does not.
@@ -84,24 +80,22 @@ pub fn follow_term(
     outputs: &mut [u8],
     ranks: &mut [u8],
     x: Progress,
-) -> Step
+) -> Result<Progress, LineFault>
     requires term_fields { TermFields text.now parts }
     requires some_said { SomeSaid x names.old lengths.old }
     requires nexts_len { (length nexts.old ≡ 1024) × (length outputs.old ≡ 1024) }
     requires ranks_len { (length ranks.old ≡ most_states) × (x.ranked < 128) }
     ensures { (before : List Says) → Held before x names.old lengths.old nexts.old outputs.old ranks.old → Stepped before (term (term_at text.now parts)) names.new lengths.new nexts.new outputs.new ranks.new result }
 {
-    match name_term(text, parts, names, lengths, x) {
-        NamedTerm::Bad => Step::Bad,
-        NamedTerm::At(counts, numbered, all) => {
-            if enter_term(text, numbered, nexts, outputs) {
-                return Step::Contradicts;
-            }
-            Step::Goes(Progress {
-                counts,
-                names: all,
-                ranked: give_rank(ranks, numbered.current, x.ranked),
-            })
-        }
+    let Some((counts, numbered, all)) = name_term(text, parts, names, lengths, x) else {
+        return Err(LineFault::Bad);
+    };
+    if enter_term(text, numbered, nexts, outputs) {
+        return Err(LineFault::Contradicts);
     }
+    Ok(Progress {
+        counts,
+        names: all,
+        ranked: give_rank(ranks, numbered.current, x.ranked),
+    })
 }

@@ -5,11 +5,13 @@ use native.Mathlib.Omega.{arith}
 use mathlib.Core.Path.{◌≡◌, refl, sym, ap, ◌∙◌}
 use mathlib.Core.Logic.{◌≢◌, ⊎_elim}
 use mathlib.Core.List.{List, [], ◌∷◌}
-use mathlib.Core.Bool.{Bool, true, false}
+use mathlib.Core.Bool.{Bool, true, false, ◌&&◌}
+use Rattle.std.specs.Prelude.{None, Some, length}
+use Rattle.rules.specs.Lists.{all}
 use borrow.Author.Tests.{lt-leb, le-leb}
 use Rattle.rules.specs.Sizes.{counts}
 use Rattle.rules.specs.Words.{same}
-use Rattle.rules.specs.Kiss2.{Field, Says, is_comment, is_number, is_name, is_cube, is_output, value, most_of, directive, fields_say, line_says}
+use Rattle.rules.specs.Kiss2.{Field, Says, is_comment, is_digit, is_number, is_name, is_cube, is_output, value, most_of, directive, fields_say, line_says}
 use Rattle.importer_lines.specs.declared.Part.{Part}
 use Rattle.importer_lines.specs.declared.Fields.{Fields}
 use Rattle.importer_lines.specs.Parts.{part_at, bytes_at, FieldIn}
@@ -23,7 +25,7 @@ use Rattle.importer_says.specs.declared.LineSaid.TheVariants.{Skipped, Number as
 use Rattle.importer_says.specs.Directives.{name_of, reset_name, end_name, NamesNone, NamedAs}
 use Rattle.importer_says.specs.Fields.{number_in}
 use Rattle.importer_says.specs.Said.{SaidAs}
-use Rattle.importer_says.proofs.Values.{number_counts, number_value, counts_bounds}
+use Rattle.importer_says.proofs.Values.{number_counts, number_none, counts_bounds}
 
 -- a test of the bytes f, which are the field g, came out so
 pub seen : (test : Field → Bool) {f g : Field} {r t : Bool} → f ≡ g → r ≡ test f → r ≡ t → test g ≡ t
@@ -40,7 +42,11 @@ counts_none zero = refl
 counts_none (suc n) = rw (le-leb 1 (suc n) (omega arith)) (lt-leb (suc n) 0 (omega arith))
 
 no_number : (field : Field) → is_number 0 field ≡ false
-no_number field = number_counts 0 field ∙ counts_none (number_in field)
+no_number field = go (counts 9 (length field) && all is_digit field)
+  where
+    go : (t : Bool) → (t && counts 0 (value field)) ≡ false
+    go true = counts_none (value field)
+    go false = refl
 
 no_reset_number : (d : Directive) → same (name_of d) reset_name ≡ false
 no_reset_number Inputs = refl
@@ -48,28 +54,31 @@ no_reset_number Outputs = refl
 no_reset_number Terms = refl
 no_reset_number States = refl
 
--- a directive whose most was looked up, and the number of the field behind it
-module _ (s : List ℕ) (d : Directive) (p : Part) {f : Field} {n most : ℕ} {r : Bool} (here : f ≡ bytes_at s p) (is : n ≡ number_in f) (looked_up : most ≡ most_of (name_of d)) (in_range : r ≡ counts most n) where
-  is_in_lem : n ≡ number_in (bytes_at s p)
-  is_in_lem = is ∙ ap (λ (x : Field). number_in x) here
-
-  tested : counts (most_of (name_of d)) n ≡ r
-  tested = ap (λ (m : ℕ). counts m n) (sym looked_up) ∙ sym in_range
-
-  pub says_number : r ≡ true → SaidAs s (directive (name_of d) (bytes_at s p)) (SaysNumber d n)
-  says_number good =
-      let ranged : counts (most_of (name_of d)) n ≡ true = tested ∙ good in
-      let counted : counts (most_of (name_of d)) (number_in (bytes_at s p)) ≡ true = ap (λ (m : ℕ). counts (most_of (name_of d)) m) (sym is_in_lem) ∙ ranged in
-      let a_number : is_number (most_of (name_of d)) (bytes_at s p) ≡ true = number_counts (most_of (name_of d)) (bytes_at s p) ∙ counted in
-      let its_value : value (bytes_at s p) ≡ n = number_value (most_of (name_of d)) (bytes_at s p) counted ∙ sym is_in_lem in
-      let bounds = counts_bounds (most_of (name_of d)) n ranged in
-      record { told = record { said = rw (a_number, its_value); least = bounds.0; most = bounds.1 } }
-
-  pub says_no_number : r ≡ false → SaidAs s (directive (name_of d) (bytes_at s p)) Bad
-  says_no_number wrong =
-      let none_counted : counts (most_of (name_of d)) (number_in (bytes_at s p)) ≡ false = ap (λ (m : ℕ). counts (most_of (name_of d)) m) (sym is_in_lem) ∙ tested ∙ wrong in
-      let none_said : is_number (most_of (name_of d)) (bytes_at s p) ≡ false = number_counts (most_of (name_of d)) (bytes_at s p) ∙ none_counted in
+-- a directive whose most was looked up, and the number, if any, of the field behind it
+module _ (s : List ℕ) (d : Directive) (p : Part) {f : Field} (here : f ≡ bytes_at s p) where
+  pub says_none : None ≡ number_in f → SaidAs s (directive (name_of d) (bytes_at s p)) Bad
+  says_none none_there =
+      let none_said : is_number (most_of (name_of d)) (bytes_at s p) ≡ false = number_none (most_of (name_of d)) (bytes_at s p) (rw here at none_there) in
       record { told = rw (none_said, no_reset_number d) }
+
+  module _ {n most : ℕ} {r : Bool} (is : Some n ≡ number_in f) (looked_up : most ≡ most_of (name_of d)) (in_range : r ≡ counts most n) where
+    tested : counts (most_of (name_of d)) n ≡ r
+    tested = ap (λ (m : ℕ). counts m n) (sym looked_up) ∙ sym in_range
+
+    told : (is_number (most_of (name_of d)) (bytes_at s p) ≡ counts (most_of (name_of d)) n) × (value (bytes_at s p) ≡ n)
+    told = number_counts (most_of (name_of d)) (bytes_at s p) n (rw here at is)
+
+    pub says_number : r ≡ true → SaidAs s (directive (name_of d) (bytes_at s p)) (SaysNumber d n)
+    says_number good =
+        let ranged : counts (most_of (name_of d)) n ≡ true = tested ∙ good in
+        let a_number : is_number (most_of (name_of d)) (bytes_at s p) ≡ true = told.0 ∙ ranged in
+        let bounds = counts_bounds (most_of (name_of d)) n ranged in
+        record { told = record { said = rw (a_number, told.1); least = bounds.0; most = bounds.1 } }
+
+    pub says_no_number : r ≡ false → SaidAs s (directive (name_of d) (bytes_at s p)) Bad
+    says_no_number wrong =
+        let none_said : is_number (most_of (name_of d)) (bytes_at s p) ≡ false = told.0 ∙ tested ∙ wrong in
+        record { told = rw (none_said, no_reset_number d) }
 
 module _ (s : List ℕ) (p : Part) where
   pub says_reset : FieldIn s p → is_name (bytes_at s p) ≡ true → SaidAs s (directive reset_name (bytes_at s p)) (SaysReset p)

@@ -3,9 +3,10 @@ use Prim.Native.Nat.{ℕ, ◌+◌, ◌*◌, ◌-◌, ◌^◌, ◌≤◌, ◌<◌
 use native.Mathlib.Numerals.{add-one}
 use native.Mathlib.Nat.{pow-suc, pow-le-pow_right}
 use native.Mathlib.Omega.{arith}
-use mathlib.Core.Path.{◌≡◌, refl, sym, ◌∙◌}
+use mathlib.Core.Path.{◌≡◌, refl, sym, ap, ◌∙◌}
 use mathlib.Core.List.{List}
 use mathlib.Core.Bool.{Bool, true, false, cond, ◌&&◌}
+use Rattle.std.specs.Prelude.{None, Some}
 use borrow.Author.Tests.{leb-true}
 use lib.Dec.{leb}
 use lib.ListN.{length, get_or, drop}
@@ -58,40 +59,22 @@ module _ (s : List ℕ) (n i : ℕ) (so_far : Reading s n i) where
         }
 
 -- whether a field is a number of 1 to `most` is seen at the number that it is
-pub number_counts : (most : ℕ) (field : Field) → is_number most field ≡ counts most (number_in field)
-number_counts most field = go (counts 9 (length field) && all is_digit field)
-  where
-    go : (t : Bool) → (t && counts most (value field)) ≡ counts most (cond t (value field) 0)
-    go true = refl
-    go false = refl
+module _ (most : ℕ) (field : Field) where
+  pub number_counts : (n : ℕ) → Some n ≡ number_in field → (is_number most field ≡ counts most n) × (value field ≡ n)
+  number_counts n = go (counts 9 (length field) && all is_digit field)
+    where
+      go : (t : Bool) → Some n ≡ cond t (Some (value field)) None → ((t && counts most (value field)) ≡ counts most n) × (value field ≡ n)
+      go true e = let is : value field ≡ n = cc in (ap (counts most) is, is)
+      go false e = cc
 
-pub number_value : (most : ℕ) (field : Field) → counts most (number_in field) ≡ true → value field ≡ number_in field
-number_value most field = go (counts 9 (length field) && all is_digit field)
-  where
-    go : (t : Bool) → counts most (cond t (value field) 0) ≡ true → value field ≡ cond t (value field) 0
-    go true e = refl
-    go false e = let z : ◌≡◌ {A = ℕ} 0 1 = cc in absurd (omega arith)
+  pub number_none : None ≡ number_in field → is_number most field ≡ false
+  number_none = go (counts 9 (length field) && all is_digit field)
+    where
+      go : (t : Bool) → None ≡ cond t (Some (value field)) None → (t && counts most (value field)) ≡ false
+      go true e = cc
+      go false e = refl
 
 pub counts_bounds : (most n : ℕ) → counts most n ≡ true → (1 ≤ n) × (n ≤ most)
 counts_bounds most n e =
     let sides = both {a = leb 1 n} e in
     (leb-true _ _ sides.0, leb-true _ _ sides.1)
-
--- a field's length is looked at, and then its bytes
-module _ (field : Field) {ranged : Bool} (in_range : ranged ≡ counts 9 (length field)) where
-  pub number_long : ranged ≡ false → 0 ≡ number_in field
-  number_long out = let e : counts 9 (length field) ≡ false = sym in_range ∙ out in rw e
-
-  module _ (in_it : ranged ≡ true) where
-    has_length : counts 9 (length field) ≡ true
-    has_length = sym in_range ∙ in_it
-
-    pub number_short : length field ≤ 9
-    number_short = (counts_bounds 9 (length field) has_length).1
-
-    module _ {passing : Bool} (in_digits : passing ≡ all is_digit field) where
-      pub number_other : passing ≡ false → 0 ≡ number_in field
-      number_other other = let e : all is_digit field ≡ false = sym in_digits ∙ other in rw (has_length, e)
-
-      pub number_read : passing ≡ true → value field ≡ number_in field
-      number_read every = let e : all is_digit field ≡ true = sym in_digits ∙ every in rw (has_length, e)

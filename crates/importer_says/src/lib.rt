@@ -26,15 +26,6 @@ enum Named {
     Other,
 }
 
-// The bytes that a field may have.
-#[derive(Clone, Copy)]
-enum Alphabet {
-    Digits,
-    Printable,
-    CubeBits,
-    Bits,
-}
-
 // Names and bits are told by where they stand in the text. A term's are its cube, its current state, its next state and its output.
 #[derive(Clone, Copy)]
 pub enum LineSaid {

@@ -9,48 +9,32 @@ ghost use Rattle.importer_says.specs.Said.{SaidAs};
 use crate::directives::{end_name, most_of, name_of, reset_name};
 use crate::fields::{in_range, is_comment, is_cube, is_name, is_output, number_in};
 use crate::{Directive, LineSaid, Named};
-use importer_lines::{Part, fields_of};
+use importer_lines::{Fields, Part, fields_of};
 use texts::same_text;
 
 fn bytes_of(text: &[u8], part: Part) -> &[u8]
     requires { FieldIn text.now part }
     ensures { result.now ≡ bytes_at text.now part }
 {
-    let start = part.start;
-    let end = part.end;
-    &text[start..end]
-}
-
-fn is_directive(field: &[u8], directive: Directive) -> bool
-    ensures { result ≡ same field.now (name_of directive) }
-{
-    let name = name_of(directive);
-    same_text(field, &name)
-}
-
-fn is_reset(field: &[u8]) -> bool
-    ensures { result ≡ same field.now reset_name }
-{
-    let name = reset_name();
-    same_text(field, &name)
+    &text[part.start..part.end]
 }
 
 fn named_by(field: &[u8]) -> Named
     ensures { NamedAs field.now result }
 {
-    if is_directive(field, Directive::Inputs) {
+    if same_text(field, &name_of(Directive::Inputs)) {
         return Named::Number(Directive::Inputs);
     }
-    if is_directive(field, Directive::Outputs) {
+    if same_text(field, &name_of(Directive::Outputs)) {
         return Named::Number(Directive::Outputs);
     }
-    if is_directive(field, Directive::Terms) {
+    if same_text(field, &name_of(Directive::Terms)) {
         return Named::Number(Directive::Terms);
     }
-    if is_directive(field, Directive::States) {
+    if same_text(field, &name_of(Directive::States)) {
         return Named::Number(Directive::States);
     }
-    if is_reset(field) {
+    if same_text(field, &reset_name()) {
         return Named::Reset;
     }
     Named::Other
@@ -60,7 +44,9 @@ fn number_said(text: &[u8], named: Directive, part: Part) -> LineSaid
     requires { FieldIn text.now part }
     ensures { SaidAs text.now (directive (name_of named) (bytes_at text.now part)) result }
 {
-    let number = number_in(bytes_of(text, part));
+    let Some(number) = number_in(bytes_of(text, part)) else {
+        return LineSaid::Bad;
+    };
     if in_range(number, most_of(named)) {
         LineSaid::Number(named, number)
     } else {
@@ -96,8 +82,7 @@ fn end_said(text: &[u8], a: Part) -> LineSaid
     requires { FieldIn text.now a }
     ensures { SaidAs text.now (fields_say (bytes_at text.now a) []) result }
 {
-    let name = end_name();
-    if same_text(bytes_of(text, a), &name) {
+    if same_text(bytes_of(text, a), &end_name()) {
         LineSaid::End
     } else {
         LineSaid::Bad
@@ -111,19 +96,15 @@ fn term_said(text: &[u8], a: Part, b: Part, c: Part, d: Part) -> LineSaid
     requires field_in_4 { FieldIn text.now d }
     ensures { SaidAs text.now (fields_say (bytes_at text.now a) (bytes_at text.now b ∷ bytes_at text.now c ∷ bytes_at text.now d ∷ [])) result }
 {
-    if !is_cube(bytes_of(text, a)) {
-        return LineSaid::Bad;
+    if is_cube(bytes_of(text, a))
+        && is_name(bytes_of(text, b))
+        && is_name(bytes_of(text, c))
+        && is_output(bytes_of(text, d))
+    {
+        LineSaid::Term(a, b, c, d)
+    } else {
+        LineSaid::Bad
     }
-    if !is_name(bytes_of(text, b)) {
-        return LineSaid::Bad;
-    }
-    if !is_name(bytes_of(text, c)) {
-        return LineSaid::Bad;
-    }
-    if !is_output(bytes_of(text, d)) {
-        return LineSaid::Bad;
-    }
-    LineSaid::Term(a, b, c, d)
 }
 
 // What the line in text[from..end] says.
@@ -131,26 +112,14 @@ pub fn line_said(text: &[u8], from: usize, end: usize) -> LineSaid
     requires { (from ≤ end) × (end ≤ length text.now) }
     ensures { SaidAs text.now (line_says (part_at text.now from end)) result }
 {
-    let fields = fields_of(text, from, end);
-    let count = fields.count;
-    let a = fields.a;
-    let b = fields.b;
-    let c = fields.c;
-    let d = fields.d;
-    if count == 0 {
+    let Fields { count, a, b, c, d } = fields_of(text, from, end);
+    if count == 0 || is_comment(bytes_of(text, a)) {
         return LineSaid::Skipped;
     }
-    if is_comment(bytes_of(text, a)) {
-        return LineSaid::Skipped;
+    match count {
+        1 => end_said(text, a),
+        2 => directive_said(text, a, b),
+        4 => term_said(text, a, b, c, d),
+        _ => LineSaid::Bad,
     }
-    if count == 1 {
-        return end_said(text, a);
-    }
-    if count == 2 {
-        return directive_said(text, a, b);
-    }
-    if count == 4 {
-        return term_said(text, a, b, c, d);
-    }
-    LineSaid::Bad
 }

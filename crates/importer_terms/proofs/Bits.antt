@@ -148,6 +148,13 @@ valued_start text start end some_byte inside few bits =
       rest = rw (zero-mul (2 ^ (end - start))) (omega arith);
     }
 
+-- a byte of the part, as it stands in the text
+pub byte_of : (text : List ℕ) (start end i value : ℕ) → Valued text start end (start + i) value → i < length (part_at text start end) → (start + i < end) × (get_or (part_at text start end) i 0 ≡ get_or text (start + i) 0)
+byte_of text start end i value so_far less =
+    let long : length (part_at text start end) ≡ end - start = length-take-le (end - start) (drop start text) (omega (arith, length-drop start text, so_far.inside)) in
+    let inside : i < end - start = omega arith in
+    (omega arith, rw (get_or-take, get_or-drop))
+
 module _ (text : List ℕ) (start end at value : ℕ) (so_far : Valued text start end at value) where
   pub valued_end : end ≤ at → value ≡ output_value (part_at text start end)
   unfolding output_value
@@ -201,3 +208,16 @@ module _ (text : List ℕ) (start end at value : ℕ) (so_far : Valued text star
           small = rw (wider, twice) (omega (arith, so_far.small, bit_byte.1));
           rest = rw double (omega (arith, so_far.rest));
         }
+
+-- one byte of the part more
+pub valued_more : (text : List ℕ) (start end i value : ℕ) → Valued text start end (start + i) value → i < length (part_at text start end)
+    → Valued text start end (start + (i + 1)) (2 * value + (get_or (part_at text start end) i 0 - 48))
+valued_more text start end i value so_far less =
+    let (before, here) = byte_of text start end i value so_far less in
+    let next : start + (i + 1) ≡ start + i + 1 = omega arith in
+    rw (next, here) (valued_next text start end (start + i) value so_far before)
+
+pub valued_all : (text : List ℕ) (start end i value : ℕ) → Valued text start end (start + i) value → length (part_at text start end) ≤ i → value ≡ output_value (part_at text start end)
+valued_all text start end i value so_far done =
+    let long : length (part_at text start end) ≡ end - start = length-take-le (end - start) (drop start text) (omega (arith, length-drop start text, so_far.inside)) in
+    valued_end text start end (start + i) value so_far (omega arith)

@@ -16,15 +16,7 @@ fn says_else(mark: u8, value: u8, term: NumberedTerm) -> bool
     requires { term.next < most_states }
     ensures { result ≡ says_else mark value term }
 {
-    if mark == 0 {
-        return false;
-    }
-    let next = term.next;
-    let output = term.output;
-    if wide(mark) != next + 1 {
-        return true;
-    }
-    value != output
+    mark != 0 && (wide(mark) != term.next + 1 || value != term.output)
 }
 
 // Whether the cube has an input whose entry says something else.
@@ -46,12 +38,10 @@ pub fn contradicts(text: &[u8], term: NumberedTerm, nexts: &[u8], outputs: &[u8]
     requires nexts_len { (length nexts.now ≡ 1024) × (length outputs.now ≡ 1024) }
     ensures { (names : List Field) (bits : ℕ) (terms : List Term) (t : Term) → EntriesAt nexts.now outputs.now names terms → TermsOver names bits terms → TermOver text.now term names bits t → result ≡ any (differ t) terms }
 {
-    let mut i = 0;
-    while i < MOST_INPUTS {
+    for i in 0..MOST_INPUTS {
         if is_against(text, term, nexts, outputs, Input::numbered(i)) {
             return true;
         }
-        i += 1;
     }
     false
 }

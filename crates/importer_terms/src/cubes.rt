@@ -29,10 +29,7 @@ fn fits(byte: u8, bit: u8) -> bool
     requires { bit < 2 }
     ensures { result ≡ (eqb byte 45 || eqb byte (48 + bit)) }
 {
-    if byte == b'-' {
-        return true;
-    }
-    byte == b'0' + bit
+    byte == b'-' || byte == b'0' + bit
 }
 
 // Whether a cube has an input: it has no more bits than the cube, and each of them fits.
@@ -40,20 +37,17 @@ pub fn cube_has(text: &[u8], cube: Part, input: Input) -> bool
     requires { CubeIn text.now cube }
     ensures { result ≡ any (eqb input.0) (opened (bytes_at text.now cube)) }
 {
-    let start = cube.start;
-    let end = cube.end;
+    let Part { start, end } = cube;
     let number = input.number();
     if weight(end - start) <= number {
         return false;
     }
     let last = end - 1;
-    let mut at = start;
-    while at < end {
+    for at in start..end {
         let behind = last - at;
         if !fits(text[at], bit_of(number, behind)) {
             return false;
         }
-        at += 1;
     }
     true
 }
@@ -63,12 +57,9 @@ pub fn output_value(text: &[u8], output: Part) -> u8
     requires { OutputIn text.now output }
     ensures { result ≡ output_value (bytes_at text.now output) }
 {
-    let end = output.end;
-    let mut at = output.start;
     let mut value = 0;
-    while at < end {
-        value = 2 * value + (text[at] - b'0');
-        at += 1;
+    for &byte in &text[output.start..output.end] {
+        value = 2 * value + (byte - b'0');
     }
     value
 }

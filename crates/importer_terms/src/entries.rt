@@ -48,9 +48,7 @@ pub fn put_term(text: &[u8], term: NumberedTerm, nexts: &mut [u8], outputs: &mut
     requires nexts_len { (length nexts.old ≡ 1024) × (length outputs.old ≡ 1024) }
     ensures { (names : List Field) (bits : ℕ) (terms : List Term) (t : Term) → EntriesAt nexts.old outputs.old names terms → TermOver text.now term names bits t → EntriesAt nexts.new outputs.new names (terms ++ (t ∷ [])) }
 {
-    let mut i = 0;
-    while i < MOST_INPUTS {
+    for i in 0..MOST_INPUTS {
         put_entry(text, term, nexts, outputs, Input::numbered(i));
-        i += 1;
     }
 }

@@ -9,7 +9,7 @@ use mathlib.Core.List.Memᴰ
 use mathlib.Core.List.{List, [], ◌∷◌, ◌++◌, map, flat_map}
 use mathlib.Core.Bool.{false}
 use mathlib.Core.Option.{Option, none}
-use lib.ListN.{length, get_or, set, length-append}
+use lib.ListN.{length, get_or, set, drop, length-append}
 use lib.Seq.{sets-eq}
 use Rattle.rules.specs.Lists.{◌∈◌, numbers_from, numbers, first}
 use Rattle.rules.specs.Sizes.{most_inputs, most_states}
@@ -109,10 +109,11 @@ row_of nexts ranks numbering n k t q less j is =
     record { name = rw is (t.numbers_in.low q less); few = t.few; there = λ i input. rw is (t.there q i less input) }
 
 -- the six bytes before the table
-pub head_written : (out : List ℕ) (k n c : ℕ)
-    → Wrote out 0 (count_bytes 2 ++ (k ∷ n ∷ []) ++ count_bytes c) (set (set (set (set (set (set out 0 2) 1 0) 2 k) 3 n) 4 (c % 256)) 5 (c / 256)) 6
+pub head_written : (out : List ℕ) (k n c : ℕ) → 6 ≤ length out → (head : List ℕ) → head ≡ 2 ∷ 0 ∷ k ∷ n ∷ c % 256 ∷ c / 256 ∷ []
+    → Wrote out 0 (count_bytes 2 ++ (k ∷ n ∷ []) ++ count_bytes c) (head ++ drop 6 out) 6
 unfolding count_bytes
-head_written out k n c = record { place = refl; same = refl }
+head_written out k n c room head is =
+    record { place = refl; same = rw is (sym (sets-eq (2 ∷ 0 ∷ k ∷ n ∷ c % 256 ∷ c / 256 ∷ []) out 0 room)) }
 
 pub head_long : (k n c : ℕ) → length (count_bytes 2 ++ (k ∷ n ∷ []) ++ count_bytes c) ≡ 6
 unfolding count_bytes

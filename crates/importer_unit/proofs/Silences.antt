@@ -12,13 +12,13 @@ use borrow.Author.Tests.{eq-eqb, ne_eqb}
 use lib.ListN.{length, get_or}
 use Rattle.rules.specs.Lists.{◌∈◌, numbers_from, numbers, first}
 use Rattle.rules.specs.Sizes.{most_inputs, most_states}
-use Rattle.rules.specs.Answers.{unit_state, input_of}
+use Rattle.rules.specs.Answers.{unit_state}
 use Rattle.rules.specs.declared.UnitState.{UnitState}
 use Rattle.rules.specs.declared.Input.{Input}
 use Rattle.rules.specs.Kiss2.{Field, Term, is_about, is_silent, grid, place_in}
 use Rattle.theory.specs.Lists.{optional, none_first, first_same, first_left, first_right, of_flat_map, of_numbers}
 use Rattle.importer_terms.specs.Entries.{entry_place, next_mark, EntriesAt}
-use Rattle.importer_unit.specs.declared.SilentFound.TheVariants.{Nowhere, At}
+use Rattle.std.specs.Prelude.{None, Some, unwrap_or}
 use Rattle.importer_unit.specs.Numbered.{NumbersIn, NumberedAt}
 use Rattle.importer_unit.specs.Held.{is_empty_at, LowestEmpty, silent_found}
 
@@ -36,13 +36,13 @@ module _ (nexts : List ℕ) (j : ℕ) where
         let here : is_empty_at nexts j n ≡ false = rw (← this, ← at) (ne_eqb (get_or nexts place 0) 0 there) in
         record { full = λ i less. elim (ℕ_discrete i n) [ yes e ↦ rw e here | no ne ↦ so_far.full i (omega arith) ] }
 
-    pub row_found : (inputs r : ℕ) → r < inputs → r ≡ n → get_or nexts place 0 ≡ 0 → LowestEmpty nexts j inputs r
+    pub row_found : (inputs : ℕ) (r : Input) → n < inputs → r.0 ≡ n → get_or nexts place 0 ≡ 0 → LowestEmpty nexts j inputs (Some r)
     row_found inputs r less is nothing =
         let here : is_empty_at nexts j n ≡ true = rw (← this, ← at) (eq-eqb (get_or nexts place 0) 0 nothing) in
-        record { below = omega arith; earlier = λ i earlier. so_far.full i (omega arith); here = λ _. rw is here }
+        record { told = (omega arith, λ i earlier. so_far.full i (omega arith), rw is here) }
 
-  pub row_end : (n inputs : ℕ) → RowFull nexts j n → n ≡ inputs → LowestEmpty nexts j inputs inputs
-  row_end n inputs so_far all = record { below = omega arith; earlier = λ i less. so_far.full i (omega arith); here = λ less. absurd (omega arith) }
+  pub row_end : (n inputs : ℕ) → RowFull nexts j n → inputs ≤ n → LowestEmpty nexts j inputs None
+  row_end n inputs so_far all = record { told = λ i less. so_far.full i (omega arith) }
 
 -- The first of a grid.
 module _ (test : ℕ × ℕ → Bool) where
@@ -98,13 +98,13 @@ module _ (nexts numbers : List ℕ) (inputs : ℕ) where
   pub rows_start : (n : ℕ) → n ≡ 0 → RowsFull nexts numbers inputs n
   rows_start n none_yet = record { full = λ q i less few. absurd (omega arith) }
 
-  pub rows_next : (n : ℕ) → RowsFull nexts numbers inputs n → (j p r : ℕ) → j ≡ get_or numbers p 0 → p ≡ n → LowestEmpty nexts j inputs r → inputs ≤ r
+  pub rows_next : (n : ℕ) → RowsFull nexts numbers inputs n → (j p : ℕ) → j ≡ get_or numbers p 0 → p ≡ n → LowestEmpty nexts j inputs None
       → (n' : ℕ) → n' ≡ n + 1 → RowsFull nexts numbers inputs n'
-  rows_next n so_far j p r is this low all n' after =
+  rows_next n so_far j p is this low n' after =
       record {
         full = λ q i less few.
             elim (ℕ_discrete q n) [
-              | yes e ↦ rw (e, ← this, ← is) (low.earlier i (omega arith))
+              | yes e ↦ rw (e, ← this, ← is) (low.told i few)
               | no ne ↦ so_far.full q i (omega arith) few
             ];
       }
@@ -132,33 +132,32 @@ module _ (nexts numbers : List ℕ) (inputs : ℕ) where
         first_same (empty_at nexts numbers) silent_at (grid states inputs)
         (λ a m. let (state, input) = of_grid states inputs m in empty_silent a.0 a.1 state input)
 
-    pub silent_none : (n : ℕ) → RowsFull nexts numbers inputs n → states ≤ n → Nowhere ≡ silent_found (first silent_at (grid states inputs))
+    pub silent_none : (n : ℕ) → RowsFull nexts numbers inputs n → states ≤ n → None ≡ silent_found (first silent_at (grid states inputs))
     silent_none n so_far all =
         let nothing = none_first (empty_at nexts numbers) (grid states inputs)
         (λ a m. let (state, input) = of_grid states inputs m in so_far.full a.0 a.1 (omega arith) input)
         in
         ap silent_found (sym nothing ∙ same_first)
 
-    pub silent_here : (n : ℕ) → RowsFull nexts numbers inputs n → n < states → (j p r : ℕ) → j ≡ get_or numbers p 0 → p ≡ n → LowestEmpty nexts j inputs r → r < inputs
-        → (s : UnitState) (i : Input) → s.0 ≡ n → i.0 ≡ r → At s i ≡ silent_found (first silent_at (grid states inputs))
-    silent_here n so_far state j p r at_p this low input s i s_is i_is =
+    pub silent_here : (n : ℕ) → RowsFull nexts numbers inputs n → n < states → (j p : ℕ) (i : Input) → j ≡ get_or numbers p 0 → p ≡ n → LowestEmpty nexts j inputs (Some i)
+        → (s : UnitState) → s.0 ≡ n → Some (s, i) ≡ silent_found (first silent_at (grid states inputs))
+    silent_here n so_far state j p i at_p this low s s_is =
+        let (input, earlier, here) = low.told in
         let is : j ≡ get_or numbers n 0 = rw (← this) at_p in
-        let found : first (empty_at nexts numbers) (grid states inputs) ≡ some (n, r) =
-        grid_first_from (empty_at nexts numbers) inputs n r 0 states so_far.full (λ m less. rw (← is) (low.earlier m less)) (rw (← is) (low.here input))
+        let found : first (empty_at nexts numbers) (grid states inputs) ≡ some (n, i.0) =
+        grid_first_from (empty_at nexts numbers) inputs n i.0 0 states so_far.full (λ m less. rw (← is) (earlier m less)) (rw (← is) here)
         input (omega arith) (omega arith)
         in
         let struct_s : s ≡ unit_state n = λ z. record { 0 = s_is z } in
-        let struct_i : i ≡ input_of r = λ z. record { 0 = i_is z } in
-        rw (struct_s, struct_i) (ap silent_found (sym found ∙ same_first))
+        rw struct_s (ap silent_found (sym found ∙ same_first))
 
 -- What an answer says of the search.
-pub nowhere_none : (o : Option (ℕ × ℕ)) → Nowhere ≡ silent_found o → o ≡ none
+pub nowhere_none : (o : Option (ℕ × ℕ)) → None ≡ silent_found o → o ≡ none
 nowhere_none none e = refl
-nowhere_none (some a) e = let z : ◌≡◌ {A = ℕ} 0 1 = cc in absurd (omega arith)
+nowhere_none (some a) e = cc
 
-pub at_some : (o : Option (ℕ × ℕ)) (s : UnitState) (i : Input) → At s i ≡ silent_found o → o ≡ some (s.0, i.0)
-at_some none s i e = let z : ◌≡◌ {A = ℕ} 0 1 = cc in absurd (omega arith)
+pub at_some : (o : Option (ℕ × ℕ)) (s : UnitState) (i : Input) → Some (s, i) ≡ silent_found o → o ≡ some (s.0, i.0)
+at_some none s i e = cc
 at_some (some a) s i e =
-    let state : s ≡ unit_state a.0 = cc in
-    let input : i ≡ input_of a.1 = cc in
-    rw (state, input)
+    let both = ap (λ o. unwrap_or o (s, i)) e in
+    rw (ap (λ p. p.0) both, ap (λ p. p.1) both)

@@ -1,5 +1,6 @@
 -- What the tables hold of the unit: the entry of a state and an input stands where its name's number and the input say.
-use Rattle.std.specs.Prelude.{ℕ, ◌-◌, ◌≤◌, ◌<◌, ◌≡◌, Bool, true, false, eqb, length, get_or}
+use Rattle.std.specs.Prelude.{ℕ, ◌-◌, ◌≤◌, ◌<◌, ◌≡◌, Bool, true, false, eqb, length, get_or, None, Some}
+use Rattle.std.specs.Prelude.{Option as Optional}
 use mathlib.Core.List.{List, map, flat_map}
 use Rattle.std.proofs.Math.Option.{Option, none, some}
 use Rattle.rules.specs.Lists.{numbers_from}
@@ -8,23 +9,26 @@ use Rattle.rules.specs.Machines.{Table}
 use Rattle.rules.specs.Files.{entry_bytes}
 use Rattle.rules.specs.Answers.{unit_state, input_of}
 use Rattle.importer_terms.specs.Entries.{entry_place}
-use Rattle.importer_unit.specs.declared.SilentFound.{SilentFound}
-use Rattle.importer_unit.specs.declared.SilentFound.TheVariants.{Nowhere, At}
+use Rattle.rules.specs.declared.UnitState.{UnitState}
+use Rattle.rules.specs.declared.Input.{Input}
 use Rattle.importer_unit.specs.Numbered.{NumbersIn}
 
 -- whether the entry of a name's number and an input is empty
 abbrev pub is_empty_at : List ℕ → ℕ → ℕ → Bool
 is_empty_at nexts j i = eqb (get_or nexts (entry_place j i) 0) 0
 
--- r is the lowest input whose entry is empty, or the number of inputs
-pub record LowestEmpty (nexts : List ℕ) (j inputs r : ℕ) : Type 0 where
-  pub below : r ≤ inputs
-  pub earlier : (i : ℕ) → i < r → is_empty_at nexts j i ≡ false
-  pub here : r < inputs → is_empty_at nexts j r ≡ true
+-- by the answer r: no entry is empty, or that of the input is the first
+abbrev pub LowestOf : List ℕ → ℕ → ℕ → Optional Input → Type 0
+LowestOf nexts j inputs None = (i : ℕ) → i < inputs → is_empty_at nexts j i ≡ false
+LowestOf nexts j inputs (Some r) = (r.0 < inputs) × ((i : ℕ) → i < r.0 → is_empty_at nexts j i ≡ false) × (is_empty_at nexts j r.0 ≡ true)
 
-abbrev pub silent_found : Option (ℕ × ℕ) → SilentFound
-silent_found none = Nowhere
-silent_found (some a) = At (unit_state a.0) (input_of a.1)
+-- r is the lowest input whose entry is empty, if there is one
+pub record LowestEmpty (nexts : List ℕ) (j inputs : ℕ) (r : Optional Input) : Type 0 where
+  pub told : LowestOf nexts j inputs r
+
+abbrev pub silent_found : Option (ℕ × ℕ) → Optional (UnitState × Input)
+silent_found none = None
+silent_found (some a) = Some (unit_state a.0, input_of a.1)
 
 -- an entry: the rank of the next state's name says the next state's number
 abbrev pub entry_held : List ℕ → List ℕ → List ℕ → ℕ → ℕ × ℕ

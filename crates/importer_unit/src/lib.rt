@@ -7,13 +7,5 @@ mod silence;
 mod writing;
 
 pub use numbering::number_states;
-use rules::{Input, UnitState};
 pub use silence::find_silent;
 pub use writing::write_unit;
-
-// The state and the input that no term is about, if there are such.
-#[derive(Clone, Copy)]
-pub enum SilentFound {
-    Nowhere,
-    At(UnitState, Input),
-}

@@ -11,10 +11,8 @@ pub fn number_states(ranks: &[u8], count: usize) -> [u8; 64]
     ensures { (names order : List Field) → length names ≡ count → Ranking ranks.now names order → NumberedAt ranks.now result names order }
 {
     let mut numbers = [0u8; 64];
-    let mut j = 0;
-    while j < count {
+    for j in 0..count {
         numbers[wide(ranks[j] - 1)] = j as u8;
-        j += 1;
     }
     numbers
 }

@@ -50,11 +50,9 @@ fn write_row(
     ensures { Wrote out.old at (row_bytes nexts.now outputs.now ranks.now current 0 inputs) out.new result }
 {
     let mut next = at;
-    let mut i = 0;
-    while i < inputs {
+    for i in 0..inputs {
         let place = entry_place(current, Input::numbered(i as u8));
         next = write_entry(nexts, outputs, ranks, place, out, next);
-        i += 1;
     }
     next
 }
@@ -75,10 +73,8 @@ fn write_table(
     ensures { Wrote out.old at (held_bytes nexts.now outputs.now ranks.now numbers.now inputs 0 states) out.new result }
 {
     let mut next = at;
-    let mut q = 0;
-    while q < states {
+    for q in 0..states {
         next = write_row(nexts, outputs, ranks, wide(numbers[q]), inputs, out, next);
-        q += 1;
     }
     next
 }
@@ -89,12 +85,14 @@ fn write_head(states: usize, inputs: usize, out: &mut [u8]) -> usize
     ensures { Wrote out.old 0 (count_bytes 2 ++ (inputs ∷ states ∷ []) ++ count_bytes (states * inputs)) out.new result }
 {
     let count = states * inputs;
-    out[0] = 2;
-    out[1] = 0;
-    out[2] = inputs as u8;
-    out[3] = states as u8;
-    out[4] = (count % 256) as u8;
-    out[5] = (count / 256) as u8;
+    out[..6].copy_from_slice(&[
+        2,
+        0,
+        inputs as u8,
+        states as u8,
+        (count % 256) as u8,
+        (count / 256) as u8,
+    ]);
     6
 }
 

@@ -6,10 +6,10 @@ use mathlib.Core.List.{List, flat_map}
 use mathlib.Core.Bool.{not}
 use mathlib.Core.Option.{Option, none, some}
 use lib.ListN.{length, get_or, take, drop}
+use Rattle.std.specs.Prelude.{Option as Found, Some, None, Result, Ok, Err}
 use Rattle.rules.specs.declared.Judged.{Judged}
 use Rattle.rules.specs.declared.Judged.TheVariants as judged
 use Rattle.rules.specs.declared.Refusal.{Refusal}
-use Rattle.rules.specs.Lists.{first}
 use Rattle.rules.specs.Words.{Word, same}
 use Rattle.rules.specs.Machines.{machine_of, answer}
 use Rattle.rules.specs.Files.{DossierData, SheetRecord, golden, word_bytes}
@@ -21,22 +21,14 @@ use Rattle.theory.specs.Check.{check_accepts}
 use Rattle.theory.specs.Pairing.{NoneRepeated, Belongs, pair-fine}
 use Rattle.theory.specs.Judge.{judge_fits}
 use Rattle.reader.specs.declared.DossierShape.{DossierShape}
-use Rattle.reader.specs.declared.DossierRead.{DossierRead}
-use Rattle.reader.specs.declared.DossierRead.TheVariants.{Holds as DossierHolds, Refused as DossierRefused}
 use Rattle.reader.specs.declared.SheetShape.{SheetShape}
-use Rattle.reader.specs.declared.SheetRead.{SheetRead}
-use Rattle.reader.specs.declared.SheetRead.TheVariants.{Holds as SheetHolds, Refused as SheetRefused}
 use Rattle.reader.specs.Shapes.{dossier_shape, dossier_read, sheet_shape, sheet_read, tests_place}
 use Rattle.reader.specs.Places.{word_at, words_at, word_place, machine_at}
 use Rattle.reader.specs.Standing.{DossierStands}
 use Rattle.reader.proofs.Held.{dossier_stands, sheet_held, sheet_not_held, tests_place_lem}
 use Rattle.walker.specs.Walks.{Whole}
 use Rattle.walker.proofs.Words.{word-length}
-use Rattle.soundness.specs.declared.Finding.{Finding}
-use Rattle.soundness.specs.declared.Finding.TheVariants.{Fine, Refused}
 use Rattle.soundness.specs.Lent.{finding_of}
-use Rattle.judge_verdict.specs.declared.Deviation.{Deviation}
-use Rattle.judge_verdict.specs.declared.Deviation.TheVariants as deviation
 use Rattle.judge_verdict.specs.Deviations.{Served, deviation_of}
 use Rattle.judge.specs.declared.Examined.{Examined}
 use Rattle.judge.specs.declared.Examined.TheVariants as examined
@@ -79,23 +71,23 @@ module _ (s : List ℕ) (d : DossierData) (stands : DossierStands s (dossier_sha
       (λ k. take (size_is k) (drop (sym test_place k) s))
       ∙ sym (word_here s (tests_place d) d.inputs (length d.tests) i t stands.tests test_at).1
 
-finding_fine : (o : Outcome (Unit {0})) → finding_of o ≡ Fine → o ≡ fine tt
+finding_fine : (o : Outcome (Unit {0})) → finding_of o ≡ Ok tt → o ≡ fine tt
 finding_fine (fine tt) e = refl
 finding_fine (refuse f) e = let z : ◌≡◌ {A = ℕ} 0 1 = cc in absurd (omega arith)
 
-finding_refused : (o : Outcome (Unit {0})) (f : Refusal) → finding_of o ≡ Refused f → o ≡ refuse f
+finding_refused : (o : Outcome (Unit {0})) (f : Refusal) → finding_of o ≡ Err f → o ≡ refuse f
 finding_refused (fine tt) f e = let z : ◌≡◌ {A = ℕ} 0 1 = cc in absurd (omega arith)
 finding_refused (refuse g) f e = cc
 
 -- An accepted dossier and a well_formed sheet, and what pairing them answers.
-module _ (s : List ℕ) (x : DossierShape) (t : List ℕ) (y : SheetShape) (h : Handed s x t y) (f : Finding) (e : f ≡ finding_of (pair (tests_in s x) (records_in t y))) where
-  pub examined_unpaired : (g : Refusal) → f ≡ Refused g → examined.Refused g ≡ examined_of s t
+module _ (s : List ℕ) (x : DossierShape) (t : List ℕ) (y : SheetShape) (h : Handed s x t y) (f : Result (Unit {0}) Refusal) (e : f ≡ finding_of (pair (tests_in s x) (records_in t y))) where
+  pub examined_unpaired : (g : Refusal) → f ≡ Err g → examined.Refused g ≡ examined_of s t
   unfolding judge
   examined_unpaired g is =
       let same_pairs : f ≡ finding_of (pair h.dossier.tests h.records) = e ∙ (λ i. finding_of (pair (h.stands.tests_words i) (h.are i))) in
       rw (h.accepted, h.reads, finding_refused (pair h.dossier.tests h.records) g (sym same_pairs ∙ is))
 
-  pub matched : {label first next value : List ℕ} → (f ≡ Fine → Filed t x.inputs (records_in t y) label first next value) → f ≡ Fine → Matched s x t label first next value
+  pub matched : {label first next value : List ℕ} → (f ≡ Ok tt → Filed t x.inputs (records_in t y) label first next value) → f ≡ Ok tt → Matched s x t label first next value
   matched filed is =
       record { shape = y; handed = h; pairs = finding_fine (pair (tests_in s x) (records_in t y)) (sym e ∙ is); filed = filed is }
 
@@ -133,21 +125,21 @@ module _ {s : List ℕ} {x : DossierShape} {t label first next value : List ℕ}
       let pairs : pair d.tests h.records ≡ fine tt = sym (λ i. pair (h.stands.tests_words i) (h.are i)) ∙ m.pairs in
       rw (h.accepted, h.reads, pairs)
 
-  module _ (r : Deviation) (told : (rs : List SheetRecord) → Filed t x.inputs rs label first next value → NoneRepeated rs
+  module _ (r : Found (ℕ × ℕ × ℕ)) (told : (rs : List SheetRecord) → Filed t x.inputs rs label first next value → NoneRepeated rs
       → r ≡ deviation_of s x.tests (machine_at s x.table x.inputs x.states) rs (deviating (machine_at s x.table x.inputs x.states) rs (tests_in s x))) where
     told_both : r ≡ deviation_of s x.tests (golden d) h.records (deviating_of both)
     told_both =
         told rs m.filed belongs.once
         ∙ (λ i. deviation_of s x.tests (golden_at_lem i) (h.are i) (deviating (golden_at_lem i) (h.are i) (h.stands.tests_words i)))
 
-    pub examined_agrees : r ≡ deviation.Nowhere → examined.Agrees ≡ examined_of s t
+    pub examined_agrees : r ≡ None → examined.Agrees ≡ examined_of s t
     examined_agrees is = rw judged_both (go (deviating_of both) (sym is ∙ told_both))
       where
-        go : (o : Option (ℕ × Word)) → deviation.Nowhere ≡ deviation_of s x.tests (golden d) h.records o → examined.Agrees ≡ examination both o
+        go : (o : Option (ℕ × Word)) → None ≡ deviation_of s x.tests (golden d) h.records o → examined.Agrees ≡ examination both o
         go none e = refl
         go (some (i, w)) e = let z : ◌≡◌ {A = ℕ} 0 1 = cc in absurd (omega arith)
 
-    module _ (i step word : ℕ) (is : r ≡ deviation.At i step word) where
+    module _ (i step word : ℕ) (is : r ≡ Some (i, step, word)) where
       -- the test that was found
       abbrev Deviates : Type 0
       Deviates = (w : Word) × (deviating_of both ≡ some (i, w)) × (step ≡ first_difference (answer (golden d) w) (recorded_for h.records w)) × (word ≡ word_place s x.tests i)
@@ -155,11 +147,12 @@ module _ {s : List ℕ} {x : DossierShape} {t label first next value : List ℕ}
       found_test : Deviates
       found_test = go (deviating_of both) refl (sym is ∙ told_both)
         where
-          go : (o : Option (ℕ × Word)) → deviating_of both ≡ o → deviation.At i step word ≡ deviation_of s x.tests (golden d) h.records o → Deviates
+          go : (o : Option (ℕ × Word)) → deviating_of both ≡ o → Some (i, step, word) ≡ deviation_of s x.tests (golden d) h.records o → Deviates
           go none is' e = let z : ◌≡◌ {A = ℕ} 0 1 = cc in absurd (omega arith)
           go (some (j, w)) is' e =
-              let same_place : j ≡ i = cc in
-              (w, is' ∙ ap (λ (n : ℕ). some (n, w)) same_place, cc, rw (← same_place) cc)
+              let all : ◌≡◌ {A = ℕ × ℕ × ℕ} (i, step, word) (j, first_difference (answer (golden d) w) (recorded_for h.records w), word_place s x.tests j) = cc in
+              let same_place : j ≡ i = sym (ap (λ (p : ℕ × ℕ × ℕ). p.0) all) in
+              (w, is' ∙ ap (λ (n : ℕ). some (n, w)) same_place, ap (λ (p : ℕ × ℕ × ℕ). p.1) all, rw (← same_place) (ap (λ (p : ℕ × ℕ × ℕ). p.2) all))
 
       stands' : DossierStands s (dossier_shape d) d
       stands' = subst (λ x. DossierStands s x d) h.shape h.stands
@@ -180,8 +173,8 @@ module _ {s : List ℕ} {x : DossierShape} {t label first next value : List ℕ}
           (λ j. examined.Deviates i (found_test.2 j) (place j) (size j)) ∙ rw (judged_both, found_test.1)
 
 -- What was read of the two files.
-module _ (s t : List ℕ) (r : DossierRead) (e : r ≡ dossier_read (check s)) where
-  pub examined_unchecked : (f : Refusal) → r ≡ DossierRefused f → examined.Refused f ≡ examined_of s t
+module _ (s t : List ℕ) (r : Result DossierShape Refusal) (e : r ≡ dossier_read (check s)) where
+  pub examined_unchecked : (f : Refusal) → r ≡ Err f → examined.Refused f ≡ examined_of s t
   unfolding judge
   examined_unchecked f is = go (check s) refl e
     where
@@ -189,7 +182,7 @@ module _ (s t : List ℕ) (r : DossierRead) (e : r ≡ dossier_read (check s)) w
       go (fine d) checks e' = let z : ◌≡◌ {A = ℕ} 0 1 = cc in absurd (omega arith)
       go (refuse g) checks e' = let same_refusal : f ≡ g = cc in rw (checks, same_refusal)
 
-  module _ (x : DossierShape) (is : r ≡ DossierHolds x) (q : SheetRead) (e₂ : q ≡ sheet_read (read_sheet x.inputs t)) where
+  module _ (x : DossierShape) (is : r ≡ Ok x) (q : Result SheetShape Refusal) (e₂ : q ≡ sheet_read (read_sheet x.inputs t)) where
     accepted_dossier : (d : DossierData) × (check s ≡ fine d) × (x ≡ dossier_shape d)
     accepted_dossier = go (check s) refl e
       where
@@ -197,14 +190,14 @@ module _ (s t : List ℕ) (r : DossierRead) (e : r ≡ dossier_read (check s)) w
         go (fine d) checks e' = (d, checks, cc)
         go (refuse g) checks e' = let z : ◌≡◌ {A = ℕ} 0 1 = cc in absurd (omega arith)
 
-    pub examined_unread : (f : Refusal) → q ≡ SheetRefused f → examined.Refused f ≡ examined_of s t
+    pub examined_unread : (f : Refusal) → q ≡ Err f → examined.Refused f ≡ examined_of s t
     unfolding judge
     examined_unread f is₂ =
         let (d, checks, shape) = accepted_dossier in
         let reads : read_sheet d.inputs t ≡ refuse f = ap (λ (x : DossierShape). read_sheet x.inputs t) (sym shape) ∙ sheet_not_held x.inputs t q f e₂ is₂ in
         rw (checks, reads)
 
-    pub handed : (y : SheetShape) → q ≡ SheetHolds y → Handed s x t y
+    pub handed : (y : SheetShape) → q ≡ Ok y → Handed s x t y
     handed y is₂ =
         let (d, checks, shape) = accepted_dossier in
         let (rs, reads, stands) = sheet_held x.inputs t q y e₂ is₂ in
@@ -221,7 +214,7 @@ module _ (s t : List ℕ) (r : DossierRead) (e : r ≡ dossier_read (check s)) w
         }
       where
         shape_of : (rs : List SheetRecord) → read_sheet x.inputs t ≡ fine rs → sheet_shape rs ≡ y
-        shape_of rs reads = let both_held : SheetHolds (sheet_shape rs) ≡ SheetHolds y = sym (e₂ ∙ ap sheet_read reads) ∙ is₂ in cc
+        shape_of rs reads = let both_held : ◌≡◌ {A = Result SheetShape Refusal} (Ok (sheet_shape rs)) (Ok y) = sym (e₂ ∙ ap sheet_read reads) ∙ is₂ in cc
 
 -- The answers that are read off.
 abbrev pub judged_of : Examined → Judged

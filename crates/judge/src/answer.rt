@@ -7,36 +7,27 @@ ghost use Rattle.judge.specs.Verdicts.{Handed, Matched, examined_of};
 use crate::{Examined, WordPart};
 use checker::accept;
 use judge_pairing::pair;
-use judge_verdict::{Deviation, find_deviating};
-use reader::{DossierRead, DossierShape, SheetRead, SheetShape, read_sheet};
+use judge_verdict::find_deviating;
+use reader::{DossierShape, SheetShape, read_sheet};
 use rules::Judged;
-use soundness::Finding;
-use trie_filing::{node_bytes, node_links};
+use trie::Nodes;
+use trie_filing::NODES;
 use walker::word_length;
-
-// A place for each node of a trie.
-fn node_places() -> [u32; 65536]
-    ensures { 65536 ≡ length result }
-{
-    [0; 65536]
-}
 
 // The verdict, where the records belong to the dossier.
 fn examine_matched(
     dossier: &[u8],
     x: DossierShape,
     sheet: &[u8],
-    label: &[u8],
-    first: &[u16],
-    next: &[u16],
+    nodes: Nodes,
     value: &[u32],
 ) -> Examined
-    requires { Matched dossier.now x sheet.now label.now first.now next.now value.now }
+    requires { Matched dossier.now x sheet.now nodes.label.now nodes.first.now nodes.next.now value.now }
     ensures { result ≡ examined_of dossier.now sheet.now }
 {
-    match find_deviating(dossier, x, sheet, label, first, next, value) {
-        Deviation::Nowhere => Examined::Agrees,
-        Deviation::At(test, step, word) => Examined::Deviates(
+    match find_deviating(dossier, x, sheet, nodes, value) {
+        None => Examined::Agrees,
+        Some((test, step, word)) => Examined::Deviates(
             test,
             step,
             word + 1,
@@ -62,8 +53,8 @@ fn examine_in(
     ensures { result ≡ examined_of dossier.now sheet.now }
 {
     match pair(dossier, x, sheet, y, label, first, next, value, marks) {
-        Finding::Refused(r) => Examined::Refused(r),
-        Finding::Fine => examine_matched(dossier, x, sheet, label, first, next, value),
+        Err(r) => Examined::Refused(r),
+        Ok(()) => examine_matched(dossier, x, sheet, Nodes { label, first, next }, value),
     }
 }
 
@@ -72,11 +63,11 @@ pub fn examine_both(dossier: &[u8], x: DossierShape, sheet: &[u8], y: SheetShape
     requires { Handed dossier.now x sheet.now y }
     ensures { result ≡ examined_of dossier.now sheet.now }
 {
-    let mut label = node_bytes();
-    let mut first = node_links();
-    let mut next = node_links();
-    let mut value = node_places();
-    let mut marks = node_bytes();
+    let mut label = [0; NODES];
+    let mut first = [0; NODES];
+    let mut next = [0; NODES];
+    let mut value = [0; NODES];
+    let mut marks = [0; NODES];
     examine_in(
         dossier, x, sheet, y, &mut label, &mut first, &mut next, &mut value, &mut marks,
     )
@@ -87,11 +78,11 @@ fn examine(dossier: &[u8], sheet: &[u8]) -> Examined
     ensures { result ≡ examined_of dossier.now sheet.now }
 {
     match accept(dossier) {
-        DossierRead::Holds(x) => match read_sheet(sheet, x.inputs) {
-            SheetRead::Holds(y) => examine_both(dossier, x, sheet, y),
-            SheetRead::Refused(r) => Examined::Refused(r),
+        Ok(x) => match read_sheet(sheet, x.inputs) {
+            Ok(y) => examine_both(dossier, x, sheet, y),
+            Err(r) => Examined::Refused(r),
         },
-        DossierRead::Refused(r) => Examined::Refused(r),
+        Err(r) => Examined::Refused(r),
     }
 }
 

@@ -7,7 +7,8 @@ mod answer;
 
 pub use answer::{examine_both, failing_part, failing_word, judge};
 
-// What the judge answers, and of a test that deviates also where its inputs stand in the dossier and how many they are.
+// What the judge answers, in the three cases of `Judged`, and of a test that deviates also where its inputs stand in the dossier and
+// how many they are.
 #[derive(Clone, Copy)]
 pub enum Examined {
     Agrees,

@@ -14,8 +14,6 @@ use Rattle.rules.specs.Operations.{repeated}
 use Rattle.reader.specs.Places.{word_at, after_record, records_at, RecordsAt}
 use Rattle.theory.specs.Lists.{outcome}
 use Rattle.theory.specs.Words.{same_true, same_refl, same_false, differ_same}
-use Rattle.trie.specs.declared.Inserted.{Inserted}
-use Rattle.trie.specs.declared.Inserted.TheVariants as inserted
 use Rattle.trie.specs.Model.{Trie, Proper, root, size, add_word, word_of, add_all, holding}
 use Rattle.trie.specs.Holds.{Holds, Counted, InsertOf}
 use Rattle.trie.specs.Grow.{size_pos}
@@ -23,7 +21,7 @@ use Rattle.trie.specs.Words.{end_word, word_root, holding_snoc, holding-size}
 use Rattle.trie.specs.Sizes.{holding_grows}
 use Rattle.trie.specs.Values.{Map, empty, put, value_of, Noted, value_same, value_other, noted_grown, insert_done}
 use Rattle.trie_filing.proofs.Firsts.{is_in_snoc, length_snoc}
-use Rattle.judge_records.specs.declared.Found.TheVariants as found
+use Rattle.std.specs.Prelude.{Option, Some, None}
 use Rattle.judge_records.specs.declared.Stored.{Stored}
 use Rattle.judge_records.specs.declared.Stored.TheVariants as stored
 use Rattle.judge_records.specs.Filed.{found_of, words_of, record_at, Stands, Filed, StoredOf}
@@ -34,9 +32,9 @@ pub counted_root : {label first next : List ℕ} {nodes : ℕ} → Counted label
 counted_root x = (x, omega (arith, x.counted, size_pos x.trie))
 
 -- The word of a record was put in, and what its node had was asked.
-module _ (t : Trie) (m : Map) (w : Word) (label first next value label' first' next' : List ℕ) (r : Inserted) (h : Holds t label first next) (noted : Noted t m value)
+module _ (t : Trie) (m : Map) (w : Word) (label first next value label' first' next' : List ℕ) (r : Option (ℕ × ℕ)) (h : Holds t label first next) (noted : Noted t m value)
     (done : InsertOf t 0 w label' first' next' r) where
-  module _ (node k : ℕ) (is : r ≡ inserted.Put node k) where
+  module _ (node k : ℕ) (is : r ≡ Some (node, k)) where
     abbrev t' : Trie
     t' = add_word t 0 w
 
@@ -62,7 +60,7 @@ module _ (t : Trie) (m : Map) (w : Word) (label first next value label' first' n
           let d = insert_done t w label' first' next' r node k h.proper done is in
           (sym had_value ∙ none', d.1, d.2, rw node_word.1 at (put' t' m d.2.proper still_noted node_word.0))
 
-  pub put_full : (p : ℕ) → r ≡ inserted.Full → StoredOf t m w p label' first' next' value stored.Full
+  pub put_full : (p : ℕ) → r ≡ None → StoredOf t m w p label' first' next' value stored.Full
   put_full p is = rw is at done
 
 -- The records that are not left are in the trie, and no word of theirs stands twice.
@@ -108,7 +106,7 @@ module _ (s : List ℕ) (p k c i at : ℕ) (label first next value : List ℕ) (
   all = records_at s p c
 
   -- all are passed: none was repeated, and all are filed
-  pub filing_end : c ≤ i → length value ≡ length label → (found.Nothing ≡ found_of (repeated all)) × Filed s k all label first next value
+  pub filing_end : c ≤ i → length value ≡ length label → (None ≡ found_of (repeated all)) × Filed s k all label first next value
   unfolding repeated
   filing_end over long =
       let is : all ≡ f.done = f.split ∙ rw (records_end s at (c - i) (omega arith)) (append-nil f.done) in (
@@ -141,7 +139,7 @@ module _ (s : List ℕ) (p k c i at : ℕ) (label first next value : List ℕ) (
       stored_here = stores (holding (words_of f.done)) f.places f.holds f.noted f.counted
 
       -- an earlier record has its word
-      pub filing_old : r ≡ stored.Old → found.At i ≡ found_of (repeated all)
+      pub filing_old : r ≡ stored.Old → Some i ≡ found_of (repeated all)
       unfolding repeated
       filing_old is =
           let had = rw is at stored_here in
@@ -222,5 +220,5 @@ module _ (s : List ℕ) (p k c i at : ℕ) (label first next value : List ℕ) (
           let one = ap size (holding_snoc (words_of f.done) w) in
           absurd (omega (arith, holding-size (words_of all)))
 
-pub at_not_nothing : {A : Type 0} {i : ℕ} → found.At i ≡ found.Nothing → A
+pub at_not_nothing : {A : Type 0} {i : ℕ} → Some i ≡ None → A
 at_not_nothing e = let z : ◌≡◌ {A = ℕ} 0 1 = cc in absurd (omega arith)

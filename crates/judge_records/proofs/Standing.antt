@@ -7,7 +7,7 @@ use mathlib.Core.List.Memᴰ
 use mathlib.Core.List.{List, [], ◌∷◌, ◌++◌, map, flat_map}
 use mathlib.Core.Bool.{Bool, true, false}
 use mathlib.Core.Option.{none, some}
-use lib.ListN.{length, get_or, take, length-append}
+use lib.ListN.{length, take, length-append}
 use Rattle.rules.specs.Lists.{◌∈◌, sum, placed, placed_from, first}
 use Rattle.rules.specs.Words.{Word}
 use Rattle.rules.specs.Files.{SheetRecord, word_bytes}
@@ -116,11 +116,11 @@ module _ (s : List ℕ) (p k c i at : ℕ) (x : WordsLeft s p k c i at) (some' :
   pub word_among : word_at s at ∈ words_at s p c
   word_among = x.among (word_at s at) (rw (word_turn s at k (c - i) (omega arith) x.stand).words (Memᴰ.head refl))
 
-  module _ (n : ℕ) (e : n ≡ get_or s at 0) where
-    pub words_are : words_at s at (c - i) ≡ word_at s at ∷ words_at s (at + 1 + n) (c - (i + 1))
+  module _ (n : ℕ) (e : n ≡ after_word s at) where
+    pub words_are : words_at s at (c - i) ≡ word_at s at ∷ words_at s n (c - (i + 1))
     words_are = rw (less_words, e) (word_turn s at k (c - i) (omega arith) x.stand).words
 
-    pub words_next : WordsLeft s p k c (i + 1) (at + 1 + n)
+    pub words_next : WordsLeft s p k c (i + 1) n
     words_next =
         record {
           stand = rw (less_words, e) (word_turn s at k (c - i) (omega arith) x.stand).rest;
@@ -140,7 +140,7 @@ module _ (test : ℕ × Word → Bool) (s : List ℕ) (p k c i at : ℕ) (x : Wo
   pub word_scan_found : test (i, word_at s at) ≡ true → first test (placed (words_at s p c)) ≡ some (i, word_at s at)
   word_scan_found e = scan ∙ rw (words_are s p k c i at x some' _ refl, e)
 
-  pub word_scan_next : (n : ℕ) → n ≡ get_or s at 0 → test (i, word_at s at) ≡ false → WordScan test s p c (i + 1) (at + 1 + n)
+  pub word_scan_next : (n : ℕ) → n ≡ after_word s at → test (i, word_at s at) ≡ false → WordScan test s p c (i + 1) n
   word_scan_next n place e = scan ∙ rw (words_are s p k c i at x some' n place, e, add-one i)
 
 -- The word number i of those from p on, and its place.

@@ -8,15 +8,14 @@ use Rattle.reader.specs.Places.{word_at, after_word, outputs_at, after_record, W
 use Rattle.trie.specs.Model.{Trie, size, add_word}
 use Rattle.trie.specs.Holds.{Holds}
 use Rattle.trie.specs.Values.{Map, put, value_of, Noted}
-use Rattle.judge_records.specs.declared.Found.{Found}
-use Rattle.judge_records.specs.declared.Found.TheVariants as found
+use Rattle.std.specs.Prelude.{Option as Found, Some, None}
 use Rattle.judge_records.specs.declared.Stored.{Stored}
 use Rattle.judge_records.specs.declared.Stored.TheVariants as stored
 
 -- the place that a search gives
-abbrev pub found_of : {A : Type 0} → Option (ℕ × A) → Found
-found_of none = found.Nothing
-found_of (some (i, x)) = found.At i
+abbrev pub found_of : {A : Type 0} → Option (ℕ × A) → Found ℕ
+found_of none = None
+found_of (some (i, x)) = Some i
 
 abbrev pub words_of : List SheetRecord → List Word
 words_of rs = map (λ (r : SheetRecord). r.word) rs

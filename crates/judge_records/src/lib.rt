@@ -2,7 +2,7 @@
 // has more than 2 n bytes, so a sheet of at most 131,070 bytes has fewer than 65,535 inputs, and their trie fits.
 #![tactic(auto)]
 
-ghost use Rattle.std.specs.Prelude.{◌≡◌, map, suc, ◌≤◌, ◌<◌, length};
+ghost use Rattle.std.specs.Prelude.{◌≡◌, map, suc, ◌≤◌, ◌<◌, length, None};
 ghost use Rattle.rules.specs.Lists.{sum};
 ghost use Rattle.rules.specs.Sizes.{most_sheet_bytes};
 ghost use Rattle.rules.specs.Operations.{repeated};
@@ -11,19 +11,11 @@ ghost use Rattle.walker.specs.Walks.{Whole};
 ghost use Rattle.trie.specs.Model.{Trie, size};
 ghost use Rattle.trie.specs.Holds.{Holds, Counted, Node};
 ghost use Rattle.trie.specs.Values.{Map, value_of, Noted};
-ghost use Rattle.judge_records.specs.declared.Found.TheVariants.{Nothing};
 ghost use Rattle.judge_records.specs.Filed.{Filed, StoredOf, words_of, found_of};
 
-use trie::{Inserted, clear_values, get, note, noted, start};
+use trie::{Nodes, clear_values, get, note, noted, start};
 use trie_filing::put_word;
-use walker::{record_end, word_length};
-
-// The place of what was looked for.
-#[derive(Clone, Copy)]
-pub enum Found {
-    Nothing,
-    At(usize),
-}
+use walker::{record_end, word_inputs};
 
 // How many nodes there are with the word of a record; or an earlier record has that word; or there is no room.
 #[derive(Clone, Copy)]
@@ -48,16 +40,14 @@ fn put_record(
     requires value_len { length value.old ≡ length label.old }
     ensures { (t : Trie) (m : Map) → Holds t label.old first.old next.old → Noted t m value.old → nodes ≡ size t → StoredOf t m (word_at sheet.now place) place label.new first.new next.new value.new result }
 {
-    match put_word(sheet, place, label, first, next, nodes, 0) {
-        Inserted::Put(node, more) => {
-            if noted(value, node) != 0 {
-                return Stored::Old;
-            }
-            note(value, node, place as u32);
-            Stored::New(more)
-        }
-        Inserted::Full => Stored::Full,
+    let Some((node, more)) = put_word(sheet, place, label, first, next, nodes, 0) else {
+        return Stored::Full;
+    };
+    if noted(value, node) != 0 {
+        return Stored::Old;
     }
+    note(value, node, place as u32);
+    Stored::New(more)
 }
 
 // Puts the records from a place on into an empty trie, up to the first one whose word an earlier record has, and answers its
@@ -71,49 +61,39 @@ pub fn put_records(
     first: &mut [u16],
     next: &mut [u16],
     value: &mut [u32],
-) -> Found
+) -> Option<usize>
     requires records_at { RecordsAt sheet.now place inputs count × (0 < place) × (length sheet.now ≤ most_sheet_bytes) }
     requires count_in_bounds { (suc (sum (map length (words_of (records_at sheet.now place count)))) ≤ length label.old) × (length label.old ≤ 65536) }
     requires first_len { (length first.old ≡ length label.old) × (length next.old ≡ length label.old) × (length value.old ≡ length label.old) }
     ensures value { result ≡ found_of (repeated (records_at sheet.now place count)) }
-    ensures filed { result ≡ Nothing → Filed sheet.now inputs (records_at sheet.now place count) label.new first.new next.new value.new }
+    ensures filed { result ≡ None → Filed sheet.now inputs (records_at sheet.now place count) label.new first.new next.new value.new }
 {
     clear_values(value);
     let mut nodes = start(label, first, next);
-    let mut i = 0;
     let mut at = place;
-    while i < count {
+    for i in 0..count {
         match put_record(sheet, at, label, first, next, value, nodes) {
             Stored::New(more) => {
                 nodes = more;
             }
             Stored::Old => {
-                return Found::At(i);
+                return Some(i);
             }
             Stored::Full => {
-                return Found::Nothing;
+                return None;
             }
         }
         at = record_end(sheet, at);
-        i += 1;
     }
-    Found::Nothing
+    None
 }
 
-// The place of the record that has the word at a place, or 0.
-pub fn record_of(
-    bytes: &[u8],
-    word: usize,
-    label: &[u8],
-    first: &[u16],
-    next: &[u16],
-    value: &[u32],
-) -> usize
+// The place of the record that has the word at a place, or 0, as the array has it by node: no record stands at the place 0.
+pub fn record_of(bytes: &[u8], word: usize, nodes: Nodes, value: &[u32]) -> usize
     requires whole { Whole bytes.now word }
-    requires node { Node label.now first.now next.now 0 }
-    requires value_len { length value.now ≡ length label.now }
-    ensures { (t : Trie) (m : Map) → Holds t label.now first.now next.now → Noted t m value.now → result ≡ value_of m (word_at bytes.now word) }
+    requires node { Node nodes.label.now nodes.first.now nodes.next.now 0 }
+    requires value_len { length value.now ≡ length nodes.label.now }
+    ensures { (t : Trie) (m : Map) → Holds t nodes.entry.label.now nodes.entry.first.now nodes.entry.next.now → Noted t m value.now → result ≡ value_of m (word_at bytes.now word) }
 {
-    let end = word + 1 + word_length(bytes, word);
-    get(label, first, next, value, &bytes[word + 1..end]) as usize
+    get(nodes, value, word_inputs(bytes, word)) as usize
 }

@@ -1,5 +1,6 @@
 -- What the search for a test that deviates is lent, and what it answers (document 01, "Judge").
 use Rattle.std.specs.Prelude.{ℕ, ◌≡◌, List, true}
+use Rattle.std.specs.Prelude.{Option as Found, Some, None}
 use Rattle.std.proofs.Math.Option.{Option, none, some}
 use Rattle.rules.specs.Lists.{◌∈◌}
 use Rattle.rules.specs.Words.{Word, is_in}
@@ -8,8 +9,6 @@ use Rattle.rules.specs.Files.{SheetRecord}
 use Rattle.rules.specs.Operations.{first_difference, recorded_for}
 use Rattle.reader.specs.Places.{word_place}
 use Rattle.judge_records.specs.Filed.{Filed, words_of}
-use Rattle.judge_verdict.specs.declared.Deviation.{Deviation}
-use Rattle.judge_verdict.specs.declared.Deviation.TheVariants as deviation
 
 -- some records are filed, and one of them has the word
 pub record Answered (s : List ℕ) (k : ℕ) (w : Word) (label first next value : List ℕ) : Type 0 where
@@ -24,6 +23,6 @@ pub record Served (s : List ℕ) (k : ℕ) (tests : List Word) (label first next
   pub there : (t : Word) → t ∈ tests → is_in t (words_of records) ≡ true
 
 -- the test that deviates, its first differing step, and its place among the words from p on
-abbrev pub deviation_of : List ℕ → ℕ → Machine → List SheetRecord → Option (ℕ × Word) → Deviation
-deviation_of s p G rs none = deviation.Nowhere
-deviation_of s p G rs (some (i, t)) = deviation.At i (first_difference (answer G t) (recorded_for rs t)) (word_place s p i)
+abbrev pub deviation_of : List ℕ → ℕ → Machine → List SheetRecord → Option (ℕ × Word) → Found (ℕ × ℕ × ℕ)
+deviation_of s p G rs none = None
+deviation_of s p G rs (some (i, t)) = Some (i, first_difference (answer G t) (recorded_for rs t), word_place s p i)

@@ -7,6 +7,7 @@ ghost use Rattle.rules.specs.Files.{SheetRecord};
 ghost use Rattle.rules.specs.Operations.{recorded_for, deviating};
 ghost use Rattle.theory.specs.Pairing.{NoneRepeated};
 ghost use Rattle.reader.specs.Places.{word_at, machine_at, TableAt, WordsAt};
+ghost use Rattle.walker.specs.Machines.{machine_in};
 ghost use Rattle.walker.specs.Walks.{Whole, differ_at};
 ghost use Rattle.judge_records.specs.Filed.{Filed};
 ghost use Rattle.judge_pairing.specs.Lent.{tests_in};
@@ -14,61 +15,47 @@ ghost use Rattle.judge_verdict.specs.Deviations.{Answered, Served, deviation_of}
 
 use judge_records::record_of;
 use reader::DossierShape;
-use walker::{Difference, recorded_difference, word_length};
-
-// The place of the first test whose recorded answer is not the golden's, the first differing step, and the byte place of the
-// test in the dossier.
-#[derive(Clone, Copy)]
-pub enum Deviation {
-    Nowhere,
-    At(usize, usize, usize),
-}
+use rules::GoldenState;
+use trie::Nodes;
+use walker::{Table, recorded_difference, word_end};
 
 // The first step at which the recorded answer to a test, which has a record, is not the golden's.
 fn test_difference(
+    golden: &Table<'_, GoldenState>,
     dossier: &[u8],
-    x: DossierShape,
     word: usize,
     sheet: &[u8],
-    label: &[u8],
-    first: &[u16],
-    next: &[u16],
+    nodes: Nodes,
     value: &[u32],
-) -> Difference
-    requires table_at { TableAt dossier.now x.table x.inputs x.states × Whole dossier.now word }
-    requires answered { Answered sheet.now x.inputs (word_at dossier.now word) label.now first.now next.now value.now }
-    ensures { (rs : List SheetRecord) → Filed sheet.now x.inputs rs label.now first.now next.now value.now → NoneRepeated rs → result ≡ differ_at (answer (machine_at dossier.now x.table x.inputs x.states) (word_at dossier.now word)) (recorded_for rs (word_at dossier.now word)) }
+) -> Option<usize>
+    requires whole { Whole dossier.now word }
+    requires answered { Answered sheet.now golden.now.inputs (word_at dossier.now word) nodes.label.now nodes.first.now nodes.next.now value.now }
+    ensures { (rs : List SheetRecord) → Filed sheet.now golden.now.inputs rs nodes.entry.label.now nodes.entry.first.now nodes.entry.next.now value.now → NoneRepeated rs → result ≡ differ_at (answer (machine_in golden.now) (word_at dossier.now word)) (recorded_for rs (word_at dossier.now word)) }
 {
-    let place = record_of(dossier, word, label, first, next, value);
-    recorded_difference(dossier, x.table, x.inputs, x.states, sheet, place)
+    let place = record_of(dossier, word, nodes, value);
+    recorded_difference(golden, sheet, place)
 }
 
-// The first test whose recorded answer is not the golden's. Each test has a record.
+// The place of the first test whose recorded answer is not the golden's, the first differing step, and the byte place of the test
+// in the dossier. Each test has a record.
 pub fn find_deviating(
     dossier: &[u8],
     x: DossierShape,
     sheet: &[u8],
-    label: &[u8],
-    first: &[u16],
-    next: &[u16],
+    nodes: Nodes,
     value: &[u32],
-) -> Deviation
+) -> Option<(usize, usize, usize)>
     requires table_at { TableAt dossier.now x.table x.inputs x.states × WordsAt dossier.now x.tests x.inputs x.count }
-    requires served { Served sheet.now x.inputs (tests_in dossier.now x) label.now first.now next.now value.now }
-    ensures { (rs : List SheetRecord) → Filed sheet.now x.inputs rs label.now first.now next.now value.now → NoneRepeated rs → result ≡ deviation_of dossier.now x.tests (machine_at dossier.now x.table x.inputs x.states) rs (deviating (machine_at dossier.now x.table x.inputs x.states) rs (tests_in dossier.now x)) }
+    requires served { Served sheet.now x.inputs (tests_in dossier.now x) nodes.label.now nodes.first.now nodes.next.now value.now }
+    ensures { (rs : List SheetRecord) → Filed sheet.now x.inputs rs nodes.entry.label.now nodes.entry.first.now nodes.entry.next.now value.now → NoneRepeated rs → result ≡ deviation_of dossier.now x.tests (machine_at dossier.now x.table x.inputs x.states) rs (deviating (machine_at dossier.now x.table x.inputs x.states) rs (tests_in dossier.now x)) }
 {
-    let count = x.count;
-    let mut i = 0;
+    let golden = Table::standing(dossier, x.table, x.inputs, x.states);
     let mut word = x.tests;
-    while i < count {
-        match test_difference(dossier, x, word, sheet, label, first, next, value) {
-            Difference::Nowhere => {}
-            Difference::At(step) => {
-                return Deviation::At(i, step, word);
-            }
+    for i in 0..x.count {
+        if let Some(step) = test_difference(&golden, dossier, word, sheet, nodes, value) {
+            return Some((i, step, word));
         }
-        word = word + 1 + word_length(dossier, word);
-        i += 1;
+        word = word_end(dossier, word);
     }
-    Deviation::Nowhere
+    None
 }

@@ -11,7 +11,7 @@ use Rattle.rules.specs.Line.{run_line}
 use Rattle.theory.specs.Lists.{At, at_in, at_below, some_injective}
 use Rattle.reader.specs.declared.DossierShape.{DossierShape}
 use Rattle.reader.specs.declared.UnitShape.{UnitShape}
-use Rattle.reader.specs.Places.{machine_at, word_at, words_at, TableAt}
+use Rattle.reader.specs.Places.{machine_at, word_at, words_at}
 use Rattle.reader.specs.Turns.{words_count}
 use Rattle.line.specs.Lines.{fails_of, FailingAt}
 
@@ -23,9 +23,6 @@ module _ {s : List ℕ} {x : DossierShape} {t : List ℕ} {y : UnitShape} {i j :
   pub failing_number : i < x.count
   failing_number =
       omega (arith, at_below f.dossier.tests i f.here, words_count s x.tests x.count, ap (λ (ws : List Word). length ws) f.stands.tests_words)
-
-  pub failing_tables : TableAt s x.table x.inputs x.states × TableAt t y.table x.inputs y.states
-  failing_tables = (f.stands.table, rw f.same_inputs f.unit_stands.table)
 
   -- the test stands at p
   module _ (p : ℕ) (at : At (words_at s x.tests x.count) i (word_at s p)) where
@@ -44,11 +41,10 @@ module _ {s : List ℕ} {x : DossierShape} {t : List ℕ} {y : UnitShape} {i j :
 
       -- the machines that stand in the bytes are the golden and the unit
       pub failing_says : (g u : ℕ) → g ≡ get_or (answer (machine_at s x.table x.inputs x.states) (word_at s p)) j 0
-          → u ≡ get_or (answer (machine_at t y.table x.inputs y.states) (word_at s p)) j 0 → fails_of i j v g u ≡ run_line s t
+          → u ≡ get_or (answer (machine_at t y.table y.inputs y.states) (word_at s p)) j 0 → fails_of i j v g u ≡ run_line s t
       failing_says g u expected given =
           let golden_is : machine_at s x.table x.inputs x.states ≡ golden f.dossier = λ k. machine_of (f.stands.inputs k) (f.stands.states k) (f.stands.entries k) in
-          let shared : machine_at t y.table x.inputs y.states ≡ machine_at t y.table y.inputs y.states = ap (λ k. machine_at t y.table k y.states) f.same_inputs in
           let unit_is : machine_at t y.table y.inputs y.states ≡ unit f.tried = λ k. machine_of (f.unit_stands.inputs k) (f.unit_stands.states k) (f.unit_stands.entries k) in
           let g_is : g ≡ get_or (answer (golden f.dossier) f.test) j 0 = expected ∙ (λ k. get_or (answer (golden_is k) (test_is k)) j 0) in
-          let u_is : u ≡ get_or (answer (unit f.tried) f.test) j 0 = given ∙ (λ k. get_or (answer ((shared ∙ unit_is) k) (test_is k)) j 0) in
+          let u_is : u ≡ get_or (answer (unit f.tried) f.test) j 0 = given ∙ (λ k. get_or (answer (unit_is k) (test_is k)) j 0) in
           (λ k. fails_of i j ((part ∙ test_is) k) (g_is k) (u_is k)) ∙ sym f.says

@@ -2,6 +2,7 @@
 use Prim.Native.Nat.{ℕ, zero, suc, ◌<◌}
 use native.Mathlib.Omega.{arith}
 use mathlib.Core.Path.{◌≡◌, refl, sym, ◌∙◌, subst}
+use Rattle.std.proofs.Common.{Result, Ok, Err}
 use mathlib.Core.Logic.{◌≢◌}
 use mathlib.Core.List.{List, [], ◌∷◌}
 use lib.ListN.{length, get_or, get_elem?}
@@ -18,11 +19,7 @@ use Rattle.theory.specs.Check.{check_accepts}
 use Rattle.theory.specs.Steps.{FirstStep, step_first, FirstUnlike, found_unlike, alike_none}
 use Rattle.theory.specs.Run.{Tries, RunGives, run_tries, run_refuses, run_exactly}
 use Rattle.reader.specs.declared.DossierShape.{DossierShape}
-use Rattle.reader.specs.declared.DossierRead.{DossierRead}
-use Rattle.reader.specs.declared.DossierRead.TheVariants.{Refused as DossierRefused}
 use Rattle.reader.specs.declared.UnitShape.{UnitShape}
-use Rattle.reader.specs.declared.UnitRead.{UnitRead}
-use Rattle.reader.specs.declared.UnitRead.TheVariants.{Holds as UnitHolds, Refused as UnitRefused}
 use Rattle.reader.specs.Shapes.{dossier_read, unit_read}
 use Rattle.reader.specs.Standing.{DossierStands, UnitStands}
 use Rattle.reader.proofs.Held.{unit_held}
@@ -80,12 +77,12 @@ module _ (s t : List ℕ) (r : Ran) (e : r ≡ run_answer s t) where
             }
 
 -- what `accept` refused, and what `read_unit` answered of a unit for an accepted dossier
-pub unchecked_line : (s t : List ℕ) (r : DossierRead) (f : Refusal) → r ≡ dossier_read (check s) → r ≡ DossierRefused f → refusal_line f ≡ run_line s t
+pub unchecked_line : (s t : List ℕ) (r : Result DossierShape Refusal) (f : Refusal) → r ≡ dossier_read (check s) → r ≡ Err f → refusal_line f ≡ run_line s t
 unchecked_line s t r f e is = refused_line_lem s t (RunRefused f) (run_answer_lem s t (RunRefused f) (run_unchecked s r e t f is)) f refl
 
-module _ (s : List ℕ) (x : DossierShape) (a : AcceptedAt s x) (t : List ℕ) (r : UnitRead) (e : r ≡ unit_read (read_unit t)) where
-  pub malformed_line : (f : Refusal) → r ≡ UnitRefused f → refusal_line f ≡ run_line s t
+module _ (s : List ℕ) (x : DossierShape) (a : AcceptedAt s x) (t : List ℕ) (r : Result UnitShape Refusal) (e : r ≡ unit_read (read_unit t)) where
+  pub malformed_line : (f : Refusal) → r ≡ Err f → refusal_line f ≡ run_line s t
   malformed_line f is = refused_line_lem s t (RunRefused f) (run_malformed_unit s x a t r e f is) f refl
 
-  pub unit_at_lem : (y : UnitShape) → r ≡ UnitHolds y → UnitAt t y
+  pub unit_at_lem : (y : UnitShape) → r ≡ Ok y → UnitAt t y
   unit_at_lem y is = let (u, reads, stands) = unit_held t r y e is in record { held = u; reads = reads; stands = stands }

@@ -10,7 +10,7 @@ pub use refused::{put_spot, write_refusal};
 // Room for every line: a text, four numbers and a word, with spaces and the line feed.
 pub const LINE_ROOM: usize = 346;
 
-// A line: its first `length` bytes. The others are 0.
+// A line: its first `length` bytes. The others are 0. There is no heap, so the bytes stand in an array of the largest size.
 #[derive(Clone, Copy)]
 pub struct Line {
     pub bytes: [u8; LINE_ROOM],

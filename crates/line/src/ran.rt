@@ -10,11 +10,11 @@ use crate::refused::write_refusal;
 use crate::{LINE_ROOM, Line};
 use checker::accept;
 use line_writer::{add_decimal, add_hex, put_line_feed, put_text};
-use reader::{DossierRead, DossierShape, UnitRead, UnitShape, read_unit};
-use rules::{Output, Ran};
+use reader::{DossierShape, UnitShape, read_unit};
+use rules::{GoldenState, Output, Ran, UnitState};
 use runner::try_unit;
-use walker::word_length;
-use walker_lookup::{golden_output_at, unit_output_at, word_place};
+use walker::{Table, word_inputs};
+use walker_lookup::{output_at, word_place};
 
 fn write_passes(count: usize, out: &mut [u8]) -> usize
     requires { line_room ≤ length out.old }
@@ -70,12 +70,11 @@ fn write_failing(
     ensures { Puts out.old 0 (run_line golden.now unit.now) out.new result }
 {
     let word = word_place(golden, x.tests, x.inputs, x.count, place);
-    let expected = golden_output_at(golden, x.table, x.inputs, x.states, word, step);
-    let given = unit_output_at(unit, y.table, x.inputs, y.states, golden, word, step);
-    let n = word_length(golden, word);
-    let inputs = word + 1;
-    let end = word + 1 + n;
-    write_fails(place, step, &golden[inputs..end], expected, given, out)
+    let machine: Table<'_, GoldenState> = Table::standing(golden, x.table, x.inputs, x.states);
+    let tried: Table<'_, UnitState> = Table::standing(unit, y.table, y.inputs, y.states);
+    let expected = output_at(&machine, golden, word, step);
+    let given = output_at(&tried, golden, word, step);
+    write_fails(place, step, word_inputs(golden, word), expected, given, out)
 }
 
 fn write_verdict(golden: &[u8], x: DossierShape, unit: &[u8], y: UnitShape, out: &mut [u8]) -> usize
@@ -98,8 +97,8 @@ fn write_trial(golden: &[u8], x: DossierShape, unit: &[u8], out: &mut [u8]) -> u
     ensures { Puts out.old 0 (run_line golden.now unit.now) out.new result }
 {
     match read_unit(unit) {
-        UnitRead::Holds(y) => write_verdict(golden, x, unit, y, out),
-        UnitRead::Refused(r) => write_refusal(r, out),
+        Ok(y) => write_verdict(golden, x, unit, y, out),
+        Err(r) => write_refusal(r, out),
     }
 }
 
@@ -108,8 +107,8 @@ fn write_run_line(golden: &[u8], unit: &[u8], out: &mut [u8]) -> usize
     ensures { Puts out.old 0 (run_line golden.now unit.now) out.new result }
 {
     match accept(golden) {
-        DossierRead::Holds(x) => write_trial(golden, x, unit, out),
-        DossierRead::Refused(r) => write_refusal(r, out),
+        Ok(x) => write_trial(golden, x, unit, out),
+        Err(r) => write_refusal(r, out),
     }
 }
 

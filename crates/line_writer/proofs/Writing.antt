@@ -5,6 +5,8 @@ use native.Mathlib.Nat.{add-zero, add_assoc}
 use native.Mathlib.Numerals.{add-one}
 use mathlib.Core.Path.{◌≡◌, refl, sym, ◌∙◌, ap}
 use mathlib.Core.List.{List, [], ◌∷◌, ◌++◌, append_assoc}
+use lib.Seq.{paste, take_all}
+use Rattle.std.proofs.Common.{append_assoc}
 use lib.ListN.{length, get_or, take, drop, set, length-append, length-drop, length-set, take-append-drop, drop_of_length-le}
 use lib.Seq.{drop-cons, length-take-le, take-suc-set, drop-set-lt, drop-drop, take_at, drop_at}
 use Rattle.rules.specs.Words.{Word, Valid}
@@ -52,6 +54,13 @@ puts_then {out} {left} {last} {p} {q} {r} {v} {w} a b =
       bytes = b.bytes ∙ rw (a.bytes, a.after) (wrote_both out p v w a.room);
     }
 
+-- a text that was copied
+pub puts_text : (out w left : List ℕ) (p : ℕ) → p + length w ≤ length out → left ≡ paste out p w (length w) → Puts out p w left (p + length w)
+unfolding wrote
+puts_text out w left p room is =
+    let whole : take (length w) w ≡ w = take_all (length w) w (omega arith) in
+    record { after = refl; room = room; bytes = is ∙ rw (whole, append_assoc) refl }
+
 pub puts_byte : (out : List ℕ) (p a : ℕ) → p < length out → Puts out p (a ∷ []) (set out p a) (p + 1)
 puts_byte out p a less =
     record {
@@ -82,8 +91,8 @@ module _ (w start : List ℕ) (p : ℕ) (out : List ℕ) (i : ℕ) (so_far : Put
         whole = rw (next, add-one i, is) (sym (wrote_next out (p + i) (get_or w i 0) (drop (suc i) w) inside) ∙ rw (← (drop-cons w i 0 less)) so_far.whole);
       }
 
-  pub putting_end : length w ≤ i → Puts start p w out (p + i)
-  putting_end done =
+  pub putting_end : length w ≤ i → (q : ℕ) → q ≡ p + length w → Puts start p w out q
+  putting_end done q behind =
       record {
         after = omega (arith, so_far.within);
         room = so_far.room;

@@ -20,12 +20,9 @@ pub fn put_text(fixed: &[u8], out: &mut [u8], at: usize) -> usize
     requires { at + length fixed.now ≤ length out.old }
     ensures { Puts out.old at fixed.now out.new result }
 {
-    let mut i = 0;
-    while i < fixed.len() {
-        out[at + i] = fixed[i];
-        i += 1;
-    }
-    at + i
+    let next = at + fixed.len();
+    out[at..next].copy_from_slice(fixed);
+    next
 }
 
 // The digit of a number below 16; letters are lower case.
@@ -34,9 +31,9 @@ fn glyph(number: u8) -> u8
     ensures { result ≡ digit number }
 {
     if number < 10 {
-        48 + number
+        b'0' + number
     } else {
-        87 + number
+        b'a' + (number - 10)
     }
 }
 
@@ -46,12 +43,10 @@ pub fn put_hex(word: &[u8], out: &mut [u8], at: usize) -> usize
     requires valid { Valid 16 word.now }
     ensures { Puts out.old at (hex word.now) out.new result }
 {
-    let mut i = 0;
-    while i < word.len() {
-        out[at + i] = glyph(word[i]);
-        i += 1;
+    for (i, &input) in word.iter().enumerate() {
+        out[at + i] = glyph(input);
     }
-    at + i
+    at + word.len()
 }
 
 // The digits of a number, the highest first, where there is room for them.
@@ -84,7 +79,7 @@ pub fn put_line_feed(out: &mut [u8], at: usize) -> usize
     put_byte(b'\n', out, at)
 }
 
-// A number as the next word of a line: a space before it.
+// A number as the next word of a line: a space before it. This and the next are plainer than one function that is passed its writer.
 pub fn add_decimal(number: usize, out: &mut [u8], at: usize) -> usize
     requires { at + 1 + most_digits ≤ length out.old }
     ensures puts { Puts out.old at (text " " ++ decimal number) out.new result }

@@ -17,8 +17,7 @@ pub fn longest_middle(x: DossierShape) -> u8
     requires { (x.states ≤ bound_of x.states x.bound_byte) × (bound_of x.states x.bound_byte ≤ x.states + 4) }
     ensures { (result ≡ suc (bound_of x.states x.bound_byte - x.states)) × (result ≤ 5) }
 {
-    let states = x.states;
-    bound_of(states, x.bound_byte) - states + 1
+    bound_of(x.states, x.bound_byte) - x.states + 1
 }
 
 // The empty middle, from which all others grow.
@@ -50,23 +49,13 @@ pub fn grown(m: Middle, i: Input) -> Middle
     ensures len_value { result.len ≡ m.len + 1 }
 {
     let len = m.len;
-    let a = m.a;
-    let b = m.b;
-    let c = m.c;
-    let d = m.d;
-    let e = m.e;
-    let a2 = put(len, 0, i, a);
-    let b2 = put(len, 1, i, b);
-    let c2 = put(len, 2, i, c);
-    let d2 = put(len, 3, i, d);
-    let e2 = put(len, 4, i, e);
     Middle {
         len: len + 1,
-        a: a2,
-        b: b2,
-        c: c2,
-        d: d2,
-        e: e2,
+        a: put(len, 0, i, m.a),
+        b: put(len, 1, i, m.b),
+        c: put(len, 2, i, m.c),
+        d: put(len, 3, i, m.d),
+        e: put(len, 4, i, m.e),
     }
 }
 
@@ -76,10 +65,8 @@ fn words_of(inputs: u8, len: u8) -> usize
     ensures { (result ≡ length (words_of inputs len)) × (0 < result) × (result ≤ 1048576) }
 {
     let mut words = 1;
-    let mut n = 0;
-    while n < len {
+    for _ in 0..len {
         words = words * (inputs as usize);
-        n += 1;
     }
     words
 }

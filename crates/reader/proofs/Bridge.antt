@@ -18,12 +18,11 @@ use Rattle.rules.specs.Machines.{Table}
 use Rattle.rules.specs.Files.{SheetRecord}
 use Rattle.rules.specs.Reading.{Got, got, faulty, Reader, then, byte, judged, count, many, word, words, output, entry, table, sheet_record}
 use Rattle.theory.specs.Readers.{reads_byte, reads_count, reads_many}
-use Rattle.theory.specs.Sections.{reads_judged-byte, reads_judged-count, reads_word, reads_record}
+use Rattle.theory.specs.Sections.{reads_judged-byte, reads_judged-count, reads_entry, reads_word, reads_record}
 use Rattle.reader.specs.Places.{entry_width, output_at, outputs_at, entries_at, word_at, after_word, words_at, after_record, records_at, TableAt, WordAt, WordsAt, RecordsAt}
 use Rattle.reader_steps.specs.Steps.{input, word_length}
 use Rattle.reader_steps.proofs.Laws.{Kept, Keeps, keeps, kept_output, byte_here, byte_none}
 use Rattle.reader_steps.proofs.Sections.{many-length, words_length}
-use Rattle.reader_parts.proofs.Parts.{kept_entry}
 
 -- what a reading that went well was made of
 pub then-got : {A B : Type 0} (s : List ℕ) (x : Got A) (next : A → Reader B) (b : B) (q : ℕ) (t : List ℕ) → Kept s x → then x next ≡ got b q t
@@ -189,7 +188,7 @@ module _ (s : List ℕ) where
   unfolding entries_at
   entries_got n zero p es q t h e = (sym (none_got (entry n) p (drop p s) es q t e).0, omega arith, λ j small. absurd (omega arith))
   entries_got n (suc c) p es q t h e =
-      let (x, p', more, one, later, is) = many-got s (entry n) c p es q t (kept_entry s n) e in
+      let (x, p', more, one, later, is) = many-got s (entry n) c p es q t (keeps (reads_entry n) s) e in
       let (there, entry_is, place, small) = entry-got n p x p' (drop p' s) one in
       let (more_are, inside, below) = entries_got n c (p + entry_width) more q t (omega arith) (rw place at later) in
       (cc, omega arith, below_more s n entry_width c p small below)

@@ -22,17 +22,12 @@ use Rattle.theory.specs.Readers.{reads_count, reads_many}
 use Rattle.theory.specs.Sections.{reads_judged-byte, reads_judged-count, reads_words, reads_table, reads_record}
 use Rattle.theory.specs.Files.{dossier_sized, unit_sized, sheet_sized}
 use Rattle.reader.specs.declared.DossierShape.{DossierShape}
-use Rattle.reader.specs.declared.DossierRead.{DossierRead}
-use Rattle.reader.specs.declared.DossierRead.TheVariants.{Holds as DossierHolds, Refused as DossierRefused}
 use Rattle.reader.specs.declared.UnitShape.{UnitShape}
-use Rattle.reader.specs.declared.UnitRead.{UnitRead}
-use Rattle.reader.specs.declared.UnitRead.TheVariants.{Holds as UnitHolds, Refused as UnitRefused}
 use Rattle.reader.specs.declared.SheetShape.{SheetShape}
-use Rattle.reader.specs.declared.SheetRead.{SheetRead}
-use Rattle.reader.specs.declared.SheetRead.TheVariants.{Holds as SheetHolds, Refused as SheetRefused}
 use Rattle.reader.specs.Places.{entries_at, words_at, records_at, after_word, after_record, TableAt, WordsAt, RecordsAt}
 use Rattle.reader.specs.Chains.{bound_number}
-use Rattle.reader.specs.Shapes.{dossier_table, unit_table_place, cover_place, separating_place, tests_place, dossier_shape, dossier_read, unit_shape, unit_read, sheet_shape, sheet_read}
+use Rattle.std.proofs.Common.{Result, Ok, Err}
+use Rattle.reader.specs.Shapes.{file_read, dossier_table, unit_table_place, cover_place, separating_place, tests_place, dossier_shape, dossier_read, unit_shape, unit_read, sheet_shape, sheet_read}
 use Rattle.reader.specs.Standing.{DossierStands, UnitStands, SheetStands}
 use Rattle.reader_steps.specs.Steps.{count_width}
 use Rattle.reader_steps.proofs.Laws.{keeps}
@@ -149,20 +144,24 @@ dossier_stands s d e =
       tests_inside = words_inside s (tests_place d) d.inputs (length d.tests) x.tests;
     }
 
--- The answer x of `read_dossier` is that of a dossier that reads well, and stands there.
-pub dossier_held : (s : List ℕ) (r : DossierRead) (x : DossierShape) → r ≡ dossier_read (read_dossier s) → r ≡ DossierHolds x → (d : DossierData) × (read_dossier s ≡ fine d) × DossierStands s x d
-dossier_held s r x e is = go (read_dossier s) refl e
-  where
-    go : (y : Outcome DossierData) → read_dossier s ≡ y → r ≡ dossier_read y → (d : DossierData) × (read_dossier s ≡ fine d) × DossierStands s x d
-    go (fine d) read e = let same : dossier_shape d ≡ x = cc in (d, read, subst (λ x. DossierStands s x d) same (dossier_stands s d read))
-    go (refuse f) read e = let z : ◌≡◌ {A = ℕ} 0 1 = cc in absurd (omega arith)
+-- The answer of a file that reads well, or does not.
+module _ {A X : Type 0} (shape : A → X) (r : Result X Refusal) where
+  was_fine : (y : Outcome A) (x : X) → r ≡ file_read shape y → r ≡ Ok x → (a : A) × (y ≡ fine a) × (shape a ≡ x)
+  was_fine (fine a) x e is = (a, refl, cc)
+  was_fine (refuse f) x e is = cc
 
-pub dossier_not_held : (s : List ℕ) (r : DossierRead) (f : Refusal) → r ≡ dossier_read (read_dossier s) → r ≡ DossierRefused f → read_dossier s ≡ refuse f
-dossier_not_held s r f e is = go (read_dossier s) refl e
-  where
-    go : (y : Outcome DossierData) → read_dossier s ≡ y → r ≡ dossier_read y → read_dossier s ≡ refuse f
-    go (fine d) read e = let z : ◌≡◌ {A = ℕ} 0 1 = cc in absurd (omega arith)
-    go (refuse f') read e = cc
+  was_refused : (y : Outcome A) (f : Refusal) → r ≡ file_read shape y → r ≡ Err f → y ≡ refuse f
+  was_refused (fine a) f e is = cc
+  was_refused (refuse f') f e is = cc
+
+-- The answer x of `read_dossier` is that of a dossier that reads well, and stands there.
+pub dossier_held : (s : List ℕ) (r : Result DossierShape Refusal) (x : DossierShape) → r ≡ dossier_read (read_dossier s) → r ≡ Ok x → (d : DossierData) × (read_dossier s ≡ fine d) × DossierStands s x d
+dossier_held s r x e is =
+    let (d, read, same) = was_fine dossier_shape r (read_dossier s) x e is in
+    (d, read, subst (λ x. DossierStands s x d) same (dossier_stands s d read))
+
+pub dossier_not_held : (s : List ℕ) (r : Result DossierShape Refusal) (f : Refusal) → r ≡ dossier_read (read_dossier s) → r ≡ Err f → read_dossier s ≡ refuse f
+dossier_not_held s r f e is = was_refused dossier_shape r (read_dossier s) f e is
 
 -- the tests' words start after the front's bytes and the tests' count
 pub tests_place_lem : (d : DossierData) → length (front_bytes d) + 2 ≡ tests_place d
@@ -195,19 +194,13 @@ unit_stands s u e =
     let (table_stands, entries) = unit_table_lem s u q t sized.machine.some_state read in
     record { size = size; sized = sized; inputs = refl; states = refl; table = table_stands; entries = entries }
 
-pub unit_held : (s : List ℕ) (r : UnitRead) (x : UnitShape) → r ≡ unit_read (read_unit s) → r ≡ UnitHolds x → (u : UnitData) × (read_unit s ≡ fine u) × UnitStands s x u
-unit_held s r x e is = go (read_unit s) refl e
-  where
-    go : (y : Outcome UnitData) → read_unit s ≡ y → r ≡ unit_read y → (u : UnitData) × (read_unit s ≡ fine u) × UnitStands s x u
-    go (fine u) read e = let same : unit_shape u ≡ x = cc in (u, read, subst (λ x. UnitStands s x u) same (unit_stands s u read))
-    go (refuse f) read e = let z : ◌≡◌ {A = ℕ} 0 1 = cc in absurd (omega arith)
+pub unit_held : (s : List ℕ) (r : Result UnitShape Refusal) (x : UnitShape) → r ≡ unit_read (read_unit s) → r ≡ Ok x → (u : UnitData) × (read_unit s ≡ fine u) × UnitStands s x u
+unit_held s r x e is =
+    let (u, read, same) = was_fine unit_shape r (read_unit s) x e is in
+    (u, read, subst (λ x. UnitStands s x u) same (unit_stands s u read))
 
-pub unit_not_held : (s : List ℕ) (r : UnitRead) (f : Refusal) → r ≡ unit_read (read_unit s) → r ≡ UnitRefused f → read_unit s ≡ refuse f
-unit_not_held s r f e is = go (read_unit s) refl e
-  where
-    go : (y : Outcome UnitData) → read_unit s ≡ y → r ≡ unit_read y → read_unit s ≡ refuse f
-    go (fine u) read e = let z : ◌≡◌ {A = ℕ} 0 1 = cc in absurd (omega arith)
-    go (refuse f') read e = cc
+pub unit_not_held : (s : List ℕ) (r : Result UnitShape Refusal) (f : Refusal) → r ≡ unit_read (read_unit s) → r ≡ Err f → read_unit s ≡ refuse f
+unit_not_held s r f e is = was_refused unit_shape r (read_unit s) f e is
 
 -- The same of a sheet.
 sheet_records : (k : ℕ) (s : List ℕ) (rs : List SheetRecord) (q : ℕ) (t : List ℕ) → sheet k 0 s ≡ got rs q t → RecordsAt s count_width k (length rs) × (records_at s count_width (length rs) ≡ rs)
@@ -236,16 +229,10 @@ sheet_stands k s rs e =
       inside = records_inside s count_width k (length rs) stand;
     }
 
-pub sheet_held : (k : ℕ) (s : List ℕ) (r : SheetRead) (x : SheetShape) → r ≡ sheet_read (read_sheet k s) → r ≡ SheetHolds x → (rs : List SheetRecord) × (read_sheet k s ≡ fine rs) × SheetStands s k x rs
-sheet_held k s r x e is = go (read_sheet k s) refl e
-  where
-    go : (y : Outcome (List SheetRecord)) → read_sheet k s ≡ y → r ≡ sheet_read y → (rs : List SheetRecord) × (read_sheet k s ≡ fine rs) × SheetStands s k x rs
-    go (fine rs) read e = let same : sheet_shape rs ≡ x = cc in (rs, read, subst (λ x. SheetStands s k x rs) same (sheet_stands k s rs read))
-    go (refuse f) read e = let z : ◌≡◌ {A = ℕ} 0 1 = cc in absurd (omega arith)
+pub sheet_held : (k : ℕ) (s : List ℕ) (r : Result SheetShape Refusal) (x : SheetShape) → r ≡ sheet_read (read_sheet k s) → r ≡ Ok x → (rs : List SheetRecord) × (read_sheet k s ≡ fine rs) × SheetStands s k x rs
+sheet_held k s r x e is =
+    let (rs, read, same) = was_fine sheet_shape r (read_sheet k s) x e is in
+    (rs, read, subst (λ x. SheetStands s k x rs) same (sheet_stands k s rs read))
 
-pub sheet_not_held : (k : ℕ) (s : List ℕ) (r : SheetRead) (f : Refusal) → r ≡ sheet_read (read_sheet k s) → r ≡ SheetRefused f → read_sheet k s ≡ refuse f
-sheet_not_held k s r f e is = go (read_sheet k s) refl e
-  where
-    go : (y : Outcome (List SheetRecord)) → read_sheet k s ≡ y → r ≡ sheet_read y → read_sheet k s ≡ refuse f
-    go (fine rs) read e = let z : ◌≡◌ {A = ℕ} 0 1 = cc in absurd (omega arith)
-    go (refuse f') read e = cc
+pub sheet_not_held : (k : ℕ) (s : List ℕ) (r : Result SheetShape Refusal) (f : Refusal) → r ≡ sheet_read (read_sheet k s) → r ≡ Err f → read_sheet k s ≡ refuse f
+sheet_not_held k s r f e is = was_refused sheet_shape r (read_sheet k s) f e is

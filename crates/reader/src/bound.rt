@@ -1,10 +1,10 @@
 // The byte for m of a dossier.
 ghost use Rattle.std.specs.Prelude.{◌≡◌, drop};
 ghost use Rattle.rules.specs.Sizes.{bound_of, bound_good};
-ghost use Rattle.reader_steps.specs.Steps.{byte_read};
+ghost use Rattle.reader_steps.specs.Steps.{number_read};
 ghost use Rattle.reader.specs.Chains.{bound_number};
 
-use reader_steps::{ByteRead, byte_at};
+use reader_steps::{Stop, judged_at};
 use rules::{Fault, MOST_ADDED_STATES, MOST_STATES};
 
 // The bound that the byte for m stands for: 0 is the default, as many states as the golden has.
@@ -26,17 +26,13 @@ pub fn bound_in_range(states: u8, byte: u8) -> bool
 }
 
 // The byte for m.
-pub fn bound_at(bytes: &[u8], states: u8, p: usize) -> ByteRead
-    ensures { result ≡ byte_read (bound_number states p (drop p bytes.now)) }
+pub fn bound_at(bytes: &[u8], states: u8, p: usize) -> Result<(u8, usize), Stop>
+    ensures { result ≡ number_read (bound_number states p (drop p bytes.now)) }
 {
-    match byte_at(bytes, p) {
-        ByteRead::Byte(byte, next) => {
-            if bound_in_range(states, byte) {
-                ByteRead::Byte(byte, next)
-            } else {
-                ByteRead::Stopped(Fault::BadNumbers, p)
-            }
-        }
-        ByteRead::Stopped(fault, place) => ByteRead::Stopped(fault, place),
-    }
+    judged_at(
+        bytes,
+        |byte| bound_in_range(states, byte),
+        Fault::BadNumbers,
+        p,
+    )
 }

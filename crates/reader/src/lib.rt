@@ -4,10 +4,9 @@
 // specs/Shapes.antt, what stands at a place in specs/Places.antt.
 #![tactic(auto)]
 
-use rules::Refusal;
-
 mod bound;
 mod dossier;
+mod file;
 mod sheet;
 mod unit;
 
@@ -32,12 +31,6 @@ pub struct DossierShape {
     pub count: usize,
 }
 
-#[derive(Clone, Copy)]
-pub enum DossierRead {
-    Holds(DossierShape),
-    Refused(Refusal),
-}
-
 // A well-formed unit.
 #[derive(Clone, Copy)]
 pub struct UnitShape {
@@ -46,21 +39,9 @@ pub struct UnitShape {
     pub table: usize,
 }
 
-#[derive(Clone, Copy)]
-pub enum UnitRead {
-    Holds(UnitShape),
-    Refused(Refusal),
-}
-
 // A well-formed sheet: where its records start, and how many it has.
 #[derive(Clone, Copy)]
 pub struct SheetShape {
     pub records: usize,
     pub count: usize,
-}
-
-#[derive(Clone, Copy)]
-pub enum SheetRead {
-    Holds(SheetShape),
-    Refused(Refusal),
 }

@@ -2,8 +2,6 @@
 // records. What the answers mean stands in the specs of `reader_steps` and in specs/Numbers.antt.
 #![tactic(auto)]
 
-use rules::Fault;
-
 mod machine;
 mod records;
 
@@ -12,7 +10,8 @@ pub use records::records_at;
 
 // How many inputs and states the machine has.
 #[derive(Clone, Copy)]
-pub enum Sizes {
-    Are { inputs: u8, states: u8, next: usize },
-    Stopped(Fault, usize),
+pub struct Sizes {
+    pub inputs: u8,
+    pub states: u8,
+    pub next: usize,
 }

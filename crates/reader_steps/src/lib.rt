@@ -2,42 +2,36 @@
 // outputs, words and sections of words. What the answers mean stands in specs/Steps.antt.
 #![tactic(auto)]
 
-use rules::Fault;
+ghost use Rattle.std.specs.Prelude.{◌≡◌};
+
+use rules::{Fault, File, Refusal};
 
 mod steps;
 mod words;
 
-pub use steps::{byte_at, count_at, output_at, outputs_at};
+pub use steps::{byte_at, count_at, judged_at, output_at, outputs_at, repeat};
 pub use words::{inputs_at, length_at, words_at};
 
-// What was read does not matter, only where it ended.
+// Why a reading stopped, and where: every step answers this where it cannot go on.
 #[derive(Clone, Copy)]
-pub enum Step {
-    Next(usize),
-    Stopped(Fault, usize),
+pub struct Stop {
+    pub fault: Fault,
+    pub place: usize,
 }
 
-// A byte and the place after it.
-#[derive(Clone, Copy)]
-pub enum ByteRead {
-    Byte(u8, usize),
-    Stopped(Fault, usize),
+impl Stop {
+    // Who reads a file refuses it so.
+    pub fn refusal(self, file: File) -> Refusal
+        ensures { result ≡ Refusal.Malformed self.fault file self.place }
+    {
+        Refusal::Malformed(self.fault, file, self.place)
+    }
 }
 
-// A count and the place after it.
+// A section of words. Its first word stands at `first`, if it has one.
 #[derive(Clone, Copy)]
-pub enum CountRead {
-    Count(usize, usize),
-    Stopped(Fault, usize),
-}
-
-// The section's first word stands at `first`, if it has one.
-#[derive(Clone, Copy)]
-pub enum Section {
-    Words {
-        first: usize,
-        count: usize,
-        next: usize,
-    },
-    Stopped(Fault, usize),
+pub struct Section {
+    pub first: usize,
+    pub count: usize,
+    pub next: usize,
 }

@@ -16,7 +16,7 @@ pub struct UnitState(u8);
 #[derive(Clone, Copy)]
 pub struct Input(u8);
 
-#[derive(Clone, Copy)]
+#[derive(Clone, Copy, PartialEq, Eq)]
 pub struct Output(u8);
 
 impl GoldenState {

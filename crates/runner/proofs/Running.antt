@@ -2,6 +2,7 @@
 use Prim.Native.Nat.{ℕ, ◌≤◌, ◌<◌}
 use native.Mathlib.Omega.{arith}
 use mathlib.Core.Path.{◌≡◌, sym, ◌∙◌}
+use Rattle.std.proofs.Common.{Result, Ok, Err}
 use mathlib.Core.List.{List}
 use borrow.Author.Tests.{eq-eqb, ne_eqb, le-leb, lt-leb}
 use Rattle.rules.specs.declared.Refusal.{Refusal}
@@ -12,11 +13,7 @@ use Rattle.rules.specs.Files.{UnitData, bound}
 use Rattle.rules.specs.Operations.{fine, read_unit, check, run, run_answer}
 use Rattle.rules.specs.Promises.{RunPromise}
 use Rattle.reader.specs.declared.DossierShape.{DossierShape}
-use Rattle.reader.specs.declared.DossierRead.{DossierRead}
-use Rattle.reader.specs.declared.DossierRead.TheVariants.{Refused as DossierRefused}
 use Rattle.reader.specs.declared.UnitShape.{UnitShape}
-use Rattle.reader.specs.declared.UnitRead.{UnitRead}
-use Rattle.reader.specs.declared.UnitRead.TheVariants.{Holds as UnitHolds, Refused as UnitRefused}
 use Rattle.reader.specs.Shapes.{dossier_read, unit_read}
 use Rattle.reader.specs.Standing.{UnitStands}
 use Rattle.reader.proofs.Held.{unit_held, unit_not_held}
@@ -25,17 +22,17 @@ use Rattle.checker.proofs.Accepting.{not_accepted}
 use Rattle.runner_trials.specs.Trials.{TrialAt}
 
 -- what `accept` answered
-pub run_unchecked : (s : List ℕ) (r : DossierRead) → r ≡ dossier_read (check s) → (t : List ℕ) (f : Refusal) → r ≡ DossierRefused f → RunPromise s t (RunRefused f)
+pub run_unchecked : (s : List ℕ) (r : Result DossierShape Refusal) → r ≡ dossier_read (check s) → (t : List ℕ) (f : Refusal) → r ≡ Err f → RunPromise s t (RunRefused f)
 unfolding run
 run_unchecked s r e t f is = rw (not_accepted s r e f is)
 
 -- what `read_unit` answered, of a unit for an accepted dossier
-module _ (s : List ℕ) (x : DossierShape) (a : AcceptedAt s x) (t : List ℕ) (r : UnitRead) (e : r ≡ unit_read (read_unit t)) where
-  pub run_malformed_unit : (f : Refusal) → r ≡ UnitRefused f → RunRefused f ≡ run_answer s t
+module _ (s : List ℕ) (x : DossierShape) (a : AcceptedAt s x) (t : List ℕ) (r : Result UnitShape Refusal) (e : r ≡ unit_read (read_unit t)) where
+  pub run_malformed_unit : (f : Refusal) → r ≡ Err f → RunRefused f ≡ run_answer s t
   unfolding run
   run_malformed_unit f is = rw (a.checks, unit_not_held t r f e is)
 
-  module _ (y : UnitShape) (is : r ≡ UnitHolds y) where
+  module _ (y : UnitShape) (is : r ≡ Ok y) where
     abbrev Held : Type 0
     Held = (u : UnitData) × (read_unit t ≡ fine u) × UnitStands t y u
 

@@ -4,9 +4,9 @@ ghost use Rattle.rules.specs.Promises.{CostPromise};
 ghost use Rattle.reader.specs.Places.{words_at, WordsAt};
 ghost use Rattle.runner.specs.Costs.{lengths};
 
-use reader::{DossierRead, read_dossier};
+use reader::read_dossier;
 use rules::Costed;
-use walker::word_length;
+use walker::{word_end, word_length};
 
 // The sum of the lengths of the words from a place on. The byte that says a word's length is no part of it.
 fn sum_lengths(bytes: &[u8], place: usize, inputs: u8, count: usize) -> usize
@@ -14,13 +14,10 @@ fn sum_lengths(bytes: &[u8], place: usize, inputs: u8, count: usize) -> usize
     ensures { result ≡ lengths (words_at bytes.now place count) }
 {
     let mut sum = 0;
-    let mut left = count;
     let mut word = place;
-    while 0 < left {
-        let n = word_length(bytes, word);
-        sum += n;
-        word = word + 1 + n;
-        left -= 1;
+    for _ in 0..count {
+        sum += word_length(bytes, word);
+        word = word_end(bytes, word);
     }
     sum
 }
@@ -29,10 +26,10 @@ pub fn cost(dossier: &[u8]) -> Costed
     ensures { CostPromise dossier.now result }
 {
     match read_dossier(dossier) {
-        DossierRead::Holds(x) => {
+        Ok(x) => {
             let sum = sum_lengths(dossier, x.tests, x.inputs, x.count);
             Costed::Cost(x.count, sum)
         }
-        DossierRead::Refused(r) => Costed::Refused(r),
+        Err(r) => Costed::Refused(r),
     }
 }

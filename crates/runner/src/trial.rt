@@ -5,7 +5,7 @@ ghost use Rattle.rules.specs.Promises.{RunPromise};
 ghost use Rattle.checker.specs.Accepted.{AcceptedAt};
 
 use checker::accept;
-use reader::{DossierRead, DossierShape, UnitRead, bound_of, read_unit};
+use reader::{DossierShape, bound_of, read_unit};
 use rules::{Ran, Refusal};
 use runner_trials::try_tests;
 
@@ -15,7 +15,7 @@ pub fn try_unit(dossier: &[u8], x: DossierShape, unit: &[u8]) -> Ran
     ensures { result ≡ run_answer dossier.now unit.now }
 {
     match read_unit(unit) {
-        UnitRead::Holds(y) => {
+        Ok(y) => {
             let inputs = x.inputs;
             if inputs != y.inputs {
                 return Ran::Refused(Refusal::OtherInputs);
@@ -25,7 +25,7 @@ pub fn try_unit(dossier: &[u8], x: DossierShape, unit: &[u8]) -> Ran
             }
             try_tests(dossier, x, unit, y)
         }
-        UnitRead::Refused(r) => Ran::Refused(r),
+        Err(r) => Ran::Refused(r),
     }
 }
 
@@ -34,7 +34,7 @@ pub fn run(dossier: &[u8], unit: &[u8]) -> Ran
     ensures { RunPromise dossier.now unit.now result }
 {
     match accept(dossier) {
-        DossierRead::Holds(x) => try_unit(dossier, x, unit),
-        DossierRead::Refused(r) => Ran::Refused(r),
+        Ok(x) => try_unit(dossier, x, unit),
+        Err(r) => Ran::Refused(r),
     }
 }

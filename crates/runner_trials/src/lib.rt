@@ -7,27 +7,21 @@ ghost use Rattle.runner_trials.specs.Trials.{TrialAt};
 
 use reader::{DossierShape, UnitShape};
 use rules::Ran;
-use walker::{Difference, unit_difference, word_length};
+use walker::{Table, unit_difference, word_end};
 
 // The tests in dossier order, up to the first whose answer differs.
 pub fn try_tests(dossier: &[u8], x: DossierShape, unit: &[u8], y: UnitShape) -> Ran
     requires { TrialAt dossier.now x unit.now y }
     ensures { result ≡ run_answer dossier.now unit.now }
 {
-    let count = x.count;
-    let mut place = 0;
+    let golden = Table::standing(dossier, x.table, x.inputs, x.states);
+    let tried = Table::standing(unit, y.table, y.inputs, y.states);
     let mut word = x.tests;
-    while place < count {
-        match unit_difference(
-            dossier, x.table, x.inputs, x.states, word, unit, y.table, y.states,
-        ) {
-            Difference::At(step) => {
-                return Ran::Fails(place, step);
-            }
-            Difference::Nowhere => {}
+    for place in 0..x.count {
+        if let Some(step) = unit_difference(&golden, &tried, dossier, word) {
+            return Ran::Fails(place, step);
         }
-        word = word + 1 + word_length(dossier, word);
-        place += 1;
+        word = word_end(dossier, word);
     }
-    Ran::Passes(count)
+    Ran::Passes(x.count)
 }

@@ -9,8 +9,7 @@ use Rattle.rules.specs.Files.{DossierData}
 use Rattle.rules.specs.Operations.{Outcome, fine, refuse, ◌>>=◌, ◌>>◌, read_dossier, sound}
 use Rattle.theory.specs.Outcomes.{settled}
 use Rattle.reader.specs.declared.DossierShape.{DossierShape}
-use Rattle.reader.specs.declared.DossierRead.{DossierRead}
-use Rattle.reader.specs.declared.DossierRead.TheVariants.{Holds as DossierHolds, Refused as DossierRefused}
+use Rattle.std.proofs.Common.{Result, Ok, Err}
 use Rattle.reader.specs.Shapes.{dossier_shape, dossier_read}
 use Rattle.soundness.specs.Lent.{sound_dossier}
 
@@ -39,28 +38,28 @@ stops (fine d) next f e = go (sound d) e
     go (refuse g) e = let same : g ≡ f = cc in ap refuse same
     go (fine y) e = let no : ◌≡◌ {A = ℕ} 0 1 = cc in absurd (omega arith)
 
-refused_not_held : {f : Refusal} {x : DossierShape} → DossierRefused f ≡ DossierHolds x → ⊥
-refused_not_held e = let z : ◌≡◌ {A = ℕ} 0 1 = cc in omega arith
+refused_not_held : {f : Refusal} {x : DossierShape} → ◌≡◌ {A = Result DossierShape Refusal} (Err f) (Ok x) → ⊥
+refused_not_held e = cc
 
-module _ (s : List ℕ) (r : DossierRead) (e : r ≡ dossier_read (sound_dossier s)) where
-  pub left_dossier : (x : DossierShape) → r ≡ DossierHolds x → (d : DossierData) × (read_dossier s ≡ fine d) × (sound d ≡ fine tt) × (dossier_shape d ≡ x)
+module _ (s : List ℕ) (r : Result DossierShape Refusal) (e : r ≡ dossier_read (sound_dossier s)) where
+  pub left_dossier : (x : DossierShape) → r ≡ Ok x → (d : DossierData) × (read_dossier s ≡ fine d) × (sound d ≡ fine tt) × (dossier_shape d ≡ x)
   left_dossier x is = go (stage s)
     where
       go : Stage s → (d : DossierData) × (read_dossier s ≡ fine d) × (sound d ≡ fine tt) × (dossier_shape d ≡ x)
       go (inl (f, bad)) = absurd (refused_not_held (sym (ap dossier_read bad) ∙ sym e ∙ is))
       go (inr (d, reads, good)) =
-          let held : dossier_read (sound_dossier s) ≡ DossierHolds (dossier_shape d) = rw (reads, good) in
-          let both : DossierHolds (dossier_shape d) ≡ DossierHolds x = sym held ∙ sym e ∙ is in
+          let held : dossier_read (sound_dossier s) ≡ Ok (dossier_shape d) = rw (reads, good) in
+          let both : ◌≡◌ {A = Result DossierShape Refusal} (Ok (dossier_shape d)) (Ok x) = sym held ∙ sym e ∙ is in
           (d, reads, good, cc)
 
-  pub left_refused : {A : Type 0} (next : DossierData → Outcome A) (f : Refusal) → r ≡ DossierRefused f → ◌>>=◌ (read_dossier s) (λ d. ◌>>◌ (sound d) (next d)) ≡ refuse f
+  pub left_refused : {A : Type 0} (next : DossierData → Outcome A) (f : Refusal) → r ≡ Err f → ◌>>=◌ (read_dossier s) (λ d. ◌>>◌ (sound d) (next d)) ≡ refuse f
   left_refused {A} next f is = stops (read_dossier s) next f (go (stage s))
     where
       go : Stage s → sound_dossier s ≡ refuse f
       go (inl (g, bad)) =
-          let both : DossierRefused g ≡ DossierRefused f = sym (ap dossier_read bad) ∙ sym e ∙ is in
+          let both : ◌≡◌ {A = Result DossierShape Refusal} (Err g) (Err f) = sym (ap dossier_read bad) ∙ sym e ∙ is in
           let same : g ≡ f = cc in
           bad ∙ ap refuse same
       go (inr (d, reads, good)) =
-          let held : dossier_read (sound_dossier s) ≡ DossierHolds (dossier_shape d) = rw (reads, good) in
+          let held : dossier_read (sound_dossier s) ≡ Ok (dossier_shape d) = rw (reads, good) in
           absurd (refused_not_held (sym is ∙ e ∙ held))

@@ -1,8 +1,10 @@
 -- Laws that tie what the searches answer over the bytes to the rules' 7 to 10.
 use Prim.Native.Nat.{ℕ}
 use native.Mathlib.Omega.{arith}
+use Rattle.std.proofs.Common.{Some, None, Result, Ok, Err}
+use Rattle.std.specs.Result.{IsErrAnd}
+use Rattle.std.proofs.lemmas.Result.{err_from_is_err_and}
 use mathlib.Core.Path.{◌≡◌, refl, sym, ◌∙◌, ap}
-use mathlib.Core.Logic.{◌⊎◌, inl, inr}
 use mathlib.Core.List.{List, []}
 use mathlib.Core.Bool.{Bool, true, false}
 use mathlib.Core.Option.{Option, none, some}
@@ -18,37 +20,27 @@ use Rattle.rules.specs.Words.{Word, is_in}
 use Rattle.rules.specs.Machines.{machine_of}
 use Rattle.rules.specs.Files.{DossierData, golden}
 use Rattle.rules.specs.Needed.{unreached, pairs, unseparated}
-use Rattle.rules.specs.Operations.{fine, refuse, read_dossier, sound}
+use Rattle.rules.specs.Answers.{golden_state}
+use Rattle.rules.specs.Operations.{Outcome, fine, refuse, ◌>>◌, read_dossier, sound}
 use Rattle.reader.specs.declared.DossierShape.{DossierShape}
-use Rattle.reader.specs.declared.DossierRead.{DossierRead}
-use Rattle.reader.specs.declared.DossierRead.TheVariants.{Holds as DossierHolds, Refused as DossierRefused}
 use Rattle.reader.specs.Places.{words_at}
 use Rattle.reader.specs.Turns.{words_count}
-use Rattle.reader.specs.Shapes.{dossier_shape, dossier_read}
+use Rattle.reader.specs.Shapes.{dossier_read}
 use Rattle.reader.proofs.Held.{dossier_held, dossier_not_held}
-use Rattle.theory.specs.Outcomes.{settled}
-use Rattle.soundness_reach.specs.declared.StateFound.{StateFound}
-use Rattle.soundness_reach.specs.declared.StateFound.TheVariants.{Nowhere, At}
-use Rattle.soundness_apart.specs.declared.PairFound.{PairFound}
-use Rattle.soundness_apart.specs.declared.PairFound.TheVariants.{Nowhere as NoPair, At as Pair}
-use Rattle.soundness.specs.declared.Finding.{Finding}
-use Rattle.soundness.specs.declared.Finding.TheVariants.{Fine, Refused}
 use Rattle.soundness.specs.Lent.{Lent, sound_of, sound_dossier, finding_of}
 use Rattle.soundness_reach.specs.Reached.{lacks, state_found}
 use Rattle.soundness_apart.specs.Separating.{pair_found, golden_at, separators_at, alike, SeparatingAt}
 use Rattle.soundness_reach.proofs.Marks.{state_at_lem, state_nowhere}
 
-pair_at_lem : (o : Option (ℕ × ℕ)) (found : PairFound) (x y : GoldenState) → found ≡ pair_found o → found ≡ Pair x y → o ≡ some (x.0, y.0)
-pair_at_lem none found x y e is = let z : ◌≡◌ {A = ℕ} 0 1 = cc in absurd (omega arith)
-pair_at_lem (some (p, q)) found x y e is =
-    let both : Pair (record { 0 = p }) (record { 0 = q }) ≡ Pair x y = sym e ∙ is in
-    let first_is : ◌≡◌ {A = GoldenState} (record { 0 = p }) x = cc in
-    let second_is : ◌≡◌ {A = GoldenState} (record { 0 = q }) y = cc in
-    λ i. some ((first_is i).0, (second_is i).0)
+pair_at_lem : (o : Option (ℕ × ℕ)) (x y : GoldenState) → Some (x, y) ≡ pair_found o → o ≡ some (x.0, y.0)
+pair_at_lem none x y is = cc
+pair_at_lem (some (p, q)) x y is =
+    let both : ◌≡◌ {A = GoldenState × GoldenState} (golden_state p, golden_state q) (x, y) = cc in
+    λ i. some ((both i).0.0, (both i).1.0)
 
-pair_nowhere : (o : Option (ℕ × ℕ)) (found : PairFound) → found ≡ pair_found o → found ≡ NoPair → o ≡ none
-pair_nowhere none found e is = refl
-pair_nowhere (some (p, q)) found e is = let z : ◌≡◌ {A = ℕ} 0 1 = cc in absurd (omega arith)
+pair_nowhere : (o : Option (ℕ × ℕ)) → None ≡ pair_found o → o ≡ none
+pair_nowhere none is = refl
+pair_nowhere (some (p, q)) is = cc
 
 module _ (s : List ℕ) (x : DossierShape) (lent : Lent s x) where
   abbrev d : DossierData
@@ -79,7 +71,7 @@ module _ (s : List ℕ) (x : DossierShape) (lent : Lent s x) where
   separators_are = ap (λ (ws : List Word). length ws) (sym lent.stands.separating_words) ∙ words_count s x.separating x.separators
 
   -- each outcome, from what the searches answered
-  pub finds_seven : (has : Bool) → has ≡ is_in [] (words_at s x.cover x.covers) → has ≡ false → Refused NoEmptyWord ≡ finding_of (sound_of s)
+  pub finds_seven : (has : Bool) → has ≡ is_in [] (words_at s x.cover x.covers) → has ≡ false → Err NoEmptyWord ≡ finding_of (sound_of s)
   unfolding sound
   finds_seven has e no_word = let is : is_in [] d.cover ≡ false = ap (is_in []) (sym lent.stands.cover_words) ∙ sym e ∙ no_word in rw (lent.reads, is)
 
@@ -87,67 +79,65 @@ module _ (s : List ℕ) (x : DossierShape) (lent : Lent s x) where
     empty_is : is_in [] d.cover ≡ true
     empty_is = ap (is_in []) (sym lent.stands.cover_words) ∙ sym e ∙ yes_word
 
-    module _ (found : StateFound) (found_is : found ≡ state_found (first (lacks (golden_at s x) (words_at s x.cover x.covers)) (numbers x.states))) where
-      pub finds_eight : (q : GoldenState) → found ≡ At q → Refused (Unreached Dossier q) ≡ finding_of (sound_of s)
+    pub finds_eight : (q : GoldenState) → Some q ≡ state_found (first (lacks (golden_at s x) (words_at s x.cover x.covers)) (numbers x.states)) → Err (Unreached Dossier q) ≡ finding_of (sound_of s)
+    unfolding sound
+    finds_eight q is =
+        let lowest : unreached d ≡ some q.0 = sym unreached_is ∙ state_at_lem _ (Some q) q is refl in
+        rw (lent.reads, empty_is, lowest)
+
+    module _ (nowhere : None ≡ state_found (first (lacks (golden_at s x) (words_at s x.cover x.covers)) (numbers x.states))) where
+      all_reached : unreached d ≡ none
+      all_reached = sym unreached_is ∙ state_nowhere _ None nowhere refl
+
+      pub finds_nine : x.separators ≡ 0 → Err NoSeparator ≡ finding_of (sound_of s)
       unfolding sound
-      finds_eight q is =
-          let lowest : unreached d ≡ some q.0 = sym unreached_is ∙ state_at_lem _ found q found_is is in
-          rw (lent.reads, empty_is, lowest)
+      finds_nine none_there =
+          let few : ltb 0 (length d.separating) ≡ false = le-ltb 0 (length d.separating) (omega (arith, separators_are, none_there)) in
+          rw (lent.reads, empty_is, all_reached, few)
 
-      module _ (is_nowhere : found ≡ Nowhere) where
-        all_reached : unreached d ≡ none
-        all_reached = sym unreached_is ∙ state_nowhere _ found found_is is_nowhere
+      module _ (some_there : x.separators ≡ 0 → ⊥) where
+        separator_there : ltb 0 (length d.separating) ≡ true
+        separator_there = lt-ltb 0 (length d.separating) (omega (arith, separators_are, some_there))
 
-        pub finds_nine : x.separators ≡ 0 → Refused NoSeparator ≡ finding_of (sound_of s)
+        pub finds_ten : (p q : GoldenState) → Some (p, q) ≡ pair_found (first (λ (p, q). alike (golden_at s x) (separators_at s x) p q) (pairs x.states)) → Err (NotSeparated p q) ≡ finding_of (sound_of s)
         unfolding sound
-        finds_nine none_there =
-            let few : ltb 0 (length d.separating) ≡ false = le-ltb 0 (length d.separating) (omega (arith, separators_are, none_there)) in
-            rw (lent.reads, empty_is, all_reached, few)
+        finds_ten p q is =
+            let lowest : unseparated d ≡ some (p.0, q.0) = sym unseparated_is ∙ pair_at_lem _ p q is in
+            rw (lent.reads, empty_is, all_reached, separator_there, lowest)
 
-        module _ (some_there : x.separators ≡ 0 → ⊥) (pair : PairFound) (pair_is : pair ≡ pair_found (first (λ (p, q). alike (golden_at s x) (separators_at s x) p q) (pairs x.states))) where
-          separator_there : ltb 0 (length d.separating) ≡ true
-          separator_there = lt-ltb 0 (length d.separating) (omega (arith, separators_are, some_there))
-
-          pub finds_ten : (p q : GoldenState) → pair ≡ Pair p q → Refused (NotSeparated p q) ≡ finding_of (sound_of s)
-          unfolding sound
-          finds_ten p q is =
-              let lowest : unseparated d ≡ some (p.0, q.0) = sym unseparated_is ∙ pair_at_lem _ pair p q pair_is is in
-              rw (lent.reads, empty_is, all_reached, separator_there, lowest)
-
-          pub finds_none : pair ≡ NoPair → Fine ≡ finding_of (sound_of s)
-          unfolding sound
-          finds_none is =
-              let all_told : unseparated d ≡ none = sym unseparated_is ∙ pair_nowhere _ pair pair_is is in
-              rw (lent.reads, empty_is, all_reached, separator_there, all_told)
+        pub finds_none : None ≡ pair_found (first (λ (p, q). alike (golden_at s x) (separators_at s x) p q) (pairs x.states)) → Ok tt ≡ finding_of (sound_of s)
+        unfolding sound
+        finds_none is =
+            let all_told : unseparated d ≡ none = sym unseparated_is ∙ pair_nowhere _ is in
+            rw (lent.reads, empty_is, all_reached, separator_there, all_told)
 
 -- what was read is lent on
-pub lent_of : (s : List ℕ) (r : DossierRead) (x : DossierShape) → r ≡ dossier_read (read_dossier s) → r ≡ DossierHolds x → Lent s x
+pub lent_of : (s : List ℕ) (r : Result DossierShape Refusal) (x : DossierShape) → r ≡ dossier_read (read_dossier s) → r ≡ Ok x → Lent s x
 lent_of s r x e is = let (d, reads, stands) = dossier_held s r x e is in record { held = d; reads = reads; stands = stands }
 
-module _ (s : List ℕ) (r : DossierRead) (e : r ≡ dossier_read (read_dossier s)) where
-  pub sound_refused : (f : Refusal) → r ≡ DossierRefused f → DossierRefused f ≡ dossier_read (sound_dossier s)
-  sound_refused f is = rw (dossier_not_held s r f e is)
+-- `?` passes on what refuses the dossier
+module _ (s : List ℕ) where
+  pub sound_refused : (r : Result DossierShape Refusal) (f : Refusal) → IsErrAnd r (λ y. y ≡ f) → Err f ≡ dossier_read (read_dossier s) → r ≡ dossier_read (sound_dossier s)
+  sound_refused r f passed is =
+      let p = err_from_is_err_and r passed in
+      rw (p.1, p.2, dossier_not_held s (Err f) f is refl)
 
-  module _ (x : DossierShape) (is : r ≡ DossierHolds x) (finding : Finding) (found : finding ≡ finding_of (sound_of s)) where
-    reads : (d : DossierData) × (read_dossier s ≡ fine d) × (r ≡ DossierHolds (dossier_shape d))
-    reads = let (d, reads, stands) = dossier_held s r x e is in (d, reads, e ∙ ap dossier_read reads)
-
-    pub sound_held : finding ≡ Fine → DossierHolds x ≡ dossier_read (sound_dossier s)
-    sound_held fine' =
-        let (d, reads, held) = reads in
-        go d reads (sym is ∙ held) (settled (sound d)) (sym found ∙ fine')
+  module _ (x : DossierShape) (e : Ok x ≡ dossier_read (read_dossier s)) where
+    pub sound_found : (r : Result DossierShape Refusal) (f : Refusal) → IsErrAnd r (λ y. y ≡ f) → Err f ≡ finding_of (sound_of s) → r ≡ dossier_read (sound_dossier s)
+    sound_found r f passed is =
+        let p = err_from_is_err_and r passed in
+        let (d, reads, stands) = dossier_held s (Ok x) x e refl in
+        rw (p.1, p.2, reads) (go d (sound d) (rw reads at is))
       where
-        go : (d : DossierData) → read_dossier s ≡ fine d → DossierHolds x ≡ DossierHolds (dossier_shape d)
-            → ((y : Unit {0}) × (sound d ≡ fine y)) ⊎ ((f : Refusal) × (sound d ≡ refuse f)) → finding_of (sound_of s) ≡ Fine → DossierHolds x ≡ dossier_read (sound_dossier s)
-        go d reads held (inl (y, good)) h = held ∙ rw (reads, good)
-        go d reads held (inr (f, bad)) h = let z : Refused f ≡ Fine = rw (reads, bad) at h in let no : ◌≡◌ {A = ℕ} 0 1 = cc in absurd (omega arith)
+        go : (d : DossierData) (o : Outcome (Unit {0})) → Err f ≡ finding_of o → Err f ≡ dossier_read (◌>>◌ o (fine d))
+        go d (fine y) is = cc
+        go d (refuse g) is = let same : f ≡ g = cc in rw same
 
-    pub sound_found : (f : Refusal) → finding ≡ Refused f → DossierRefused f ≡ dossier_read (sound_dossier s)
-    sound_found f bad =
-        let (d, reads, held) = reads in
-        go d reads (settled (sound d)) (sym found ∙ bad)
+    pub sound_held : Ok tt ≡ finding_of (sound_of s) → Ok x ≡ dossier_read (sound_dossier s)
+    sound_held is =
+        let (d, reads, stands) = dossier_held s (Ok x) x e refl in
+        rw reads (go d (sound d) (rw reads at is) (rw reads at e))
       where
-        go : (d : DossierData) → read_dossier s ≡ fine d → ((y : Unit {0}) × (sound d ≡ fine y)) ⊎ ((f : Refusal) × (sound d ≡ refuse f)) → finding_of (sound_of s) ≡ Refused f
-            → DossierRefused f ≡ dossier_read (sound_dossier s)
-        go d reads (inl (y, good)) h = let z : Fine ≡ Refused f = rw (reads, good) at h in let no : ◌≡◌ {A = ℕ} 0 1 = cc in absurd (omega arith)
-        go d reads (inr (g, worse)) h = let same : Refused g ≡ Refused f = rw (reads, worse) at h in rw (reads, worse) (cc)
+        go : (d : DossierData) (o : Outcome (Unit {0})) → Ok tt ≡ finding_of o → Ok x ≡ dossier_read (fine d) → Ok x ≡ dossier_read (◌>>◌ o (fine d))
+        go d (fine y) is held = held
+        go d (refuse g) is held = cc

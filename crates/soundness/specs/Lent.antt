@@ -1,11 +1,11 @@
 -- What the checker's functions are lent, the bytes of a dossier that reads well and its shape; and what they answer of the rules' outcomes.
-use Rattle.std.specs.Prelude.{ℕ, ◌≡◌, List}
+use Rattle.std.specs.Prelude.{ℕ, ◌≡◌, List, Result}
+use Rattle.rules.specs.declared.Refusal.{Refusal}
 use Rattle.rules.specs.Files.{DossierData}
-use Rattle.rules.specs.Operations.{Outcome, fine, refuse, ◌>>=◌, ◌>>◌, read_dossier, sound}
+use Rattle.rules.specs.Operations.{Outcome, fine, ◌>>=◌, ◌>>◌, read_dossier, sound}
 use Rattle.reader.specs.declared.DossierShape.{DossierShape}
+use Rattle.reader.specs.Shapes.{file_read}
 use Rattle.reader.specs.Standing.{DossierStands}
-use Rattle.soundness.specs.declared.Finding.{Finding}
-use Rattle.soundness.specs.declared.Finding.TheVariants.{Fine, Refused}
 
 pub record Lent (s : List ℕ) (x : DossierShape) : Type 0 where
   pub held : DossierData
@@ -20,6 +20,6 @@ sound_of s = ◌>>=◌ (read_dossier s) sound
 abbrev pub sound_dossier : List ℕ → Outcome DossierData
 sound_dossier s = ◌>>=◌ (read_dossier s) (λ d. ◌>>◌ (sound d) (fine d))
 
-abbrev pub finding_of : Outcome (Unit {0}) → Finding
-finding_of (fine x) = Fine
-finding_of (refuse r) = Refused r
+-- nothing to refuse, or the first refusal
+abbrev pub finding_of : Outcome (Unit {0}) → Result (Unit {0}) Refusal
+finding_of = file_read (λ x. x)

@@ -1,15 +1,6 @@
 // Whether the word sets of a dossier reach each state and tell each two apart (document 01, refusals 1 to 10).
 #![tactic(auto)]
 
-use rules::Refusal;
-
 mod sound;
 
 pub use sound::read_sound;
-
-// Nothing to refuse, or the first refusal.
-#[derive(Clone, Copy)]
-pub enum Finding {
-    Fine,
-    Refused(Refusal),
-}

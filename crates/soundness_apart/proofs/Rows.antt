@@ -11,7 +11,7 @@ use Rattle.rules.specs.declared.GoldenState.{GoldenState}
 use Rattle.rules.specs.Lists.{first, numbers_from}
 use Rattle.rules.specs.Needed.{pairs}
 use Rattle.theory.specs.Lists.{outcome, none_not_some, some_injective, first_left, first_right}
-use Rattle.soundness_apart.specs.declared.PairFound.TheVariants.{At as Pair}
+use Rattle.std.specs.Prelude.{Some}
 use Rattle.soundness_apart.specs.Separating.{pair_found}
 
 -- a row of pairs: the search for the second number
@@ -54,5 +54,5 @@ pub rows_end : (test : ℕ × ℕ → Bool) (n p : ℕ) → n ≤ p → first te
 unfolding flat_map
 rows_end test n p h = let done : n - p ≡ 0 = omega arith in rw done
 
-pub pair_found_lem : (x y : GoldenState) (p q : ℕ) (o : Option (ℕ × ℕ)) → x.0 ≡ p → y.0 ≡ q → o ≡ some (p, q) → Pair x y ≡ pair_found o
+pub pair_found_lem : (x y : GoldenState) (p q : ℕ) (o : Option (ℕ × ℕ)) → x.0 ≡ p → y.0 ≡ q → o ≡ some (p, q) → Some (x, y) ≡ pair_found o
 pair_found_lem x y p q o is_p is_q e = rw (e, ← is_p, ← is_q)

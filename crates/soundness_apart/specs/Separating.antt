@@ -1,6 +1,7 @@
 -- The states that separating words tell apart (document 01, refusals 9 and 10): what the search is lent, the test that the rules' search
 -- makes, and what is answered of it.
-use Rattle.std.specs.Prelude.{ℕ, ◌≤◌, ◌<◌, ◌≡◌, List, Bool, true, false, length, get_or}
+use Rattle.rules.specs.declared.GoldenState.{GoldenState}
+use Rattle.std.specs.Prelude.{Option as Found, Some, None, ℕ, ◌≤◌, ◌<◌, ◌≡◌, List, Bool, true, false, length, get_or}
 use Rattle.std.proofs.Math.Option.{Option, none, some}
 use Rattle.rules.specs.Lists.{◌∈◌, all}
 use Rattle.rules.specs.Words.{Word, same}
@@ -9,10 +10,6 @@ use Rattle.rules.specs.Answers.{golden_state}
 use Rattle.reader.specs.declared.DossierShape.{DossierShape}
 use Rattle.reader.specs.Places.{machine_at, word_at, words_at, TableAt, WordAt, WordsAt}
 use Rattle.soundness_apart.specs.declared.Known.{Known}
-use Rattle.soundness_apart.specs.declared.PairFound.{PairFound}
-use Rattle.soundness_apart.specs.declared.PairFound.TheVariants.{Nowhere as NoPair, At as Pair}
-use Rattle.soundness_apart.specs.declared.Telling.{Telling}
-use Rattle.soundness_apart.specs.declared.Telling.TheVariants.{By, Silent}
 
 -- the golden and the separating words, where they stand
 abbrev pub golden_at : List ℕ → DossierShape → Machine
@@ -40,9 +37,9 @@ pub record SeparatorAt (s : List ℕ) (x : DossierShape) (p : ℕ) : Type 0 wher
   pub member : word_at s p ∈ separators_at s x
 
 -- what the search for a telling word answers: the place of one, or that the states answer all alike
-abbrev pub TellingIs : List ℕ → DossierShape → ℕ → ℕ → Telling → Type 0
-TellingIs s x p q (By place) = SeparatorAt s x place × (alike_on (golden_at s x) p q (word_at s place) ≡ false)
-TellingIs s x p q Silent = alike (golden_at s x) (separators_at s x) p q ≡ true
+abbrev pub TellingIs : List ℕ → DossierShape → ℕ → ℕ → Found ℕ → Type 0
+TellingIs s x p q (Some place) = SeparatorAt s x place × (alike_on (golden_at s x) p q (word_at s place) ≡ false)
+TellingIs s x p q None = alike (golden_at s x) (separators_at s x) p q ≡ true
 
 -- the places that are known are places of separating words
 pub record KnownAt (s : List ℕ) (x : DossierShape) (known : Known) : Type 0 where
@@ -50,6 +47,6 @@ pub record KnownAt (s : List ℕ) (x : DossierShape) (known : Known) : Type 0 wh
   pub size : length known.places ≡ 64
   pub separators : (j : ℕ) → j < known.count → SeparatorAt s x (get_or known.places j 0)
 
-abbrev pub pair_found : Option (ℕ × ℕ) → PairFound
-pair_found none = NoPair
-pair_found (some (p, q)) = Pair (golden_state p) (golden_state q)
+abbrev pub pair_found : Option (ℕ × ℕ) → Found (GoldenState × GoldenState)
+pair_found none = None
+pair_found (some (p, q)) = Some (golden_state p, golden_state q)

@@ -1,5 +1,6 @@
 -- Laws of marks: after each word, the marks and the words that are left say together what all words say.
 use Prim.Native.Nat.{ℕ, suc, ◌+◌, ◌-◌, ◌≤◌, ◌<◌}
+use native.Mathlib.Nat.{sub-zero}
 use native.Mathlib.Omega.{arith}
 use native.Mathlib.Decide.{ℕ_discrete}
 use mathlib.Core.Path.{◌≡◌, refl, sym, ◌∙◌, ap}
@@ -16,10 +17,9 @@ use Rattle.rules.specs.declared.GoldenState.{GoldenState}
 use Rattle.rules.specs.Words.{Word}
 use Rattle.rules.specs.Machines.{Machine, after}
 use Rattle.reader.specs.Places.{machine_at, word_at, after_word, words_at, WordsAt}
-use Rattle.reader.specs.Turns.{word_turn, words_end}
+use Rattle.walker.proofs.Turns.{turn, turns_end}
 use Rattle.soundness_reach.specs.Reached.{unmarked, lit, reaches, lacks, state_found}
-use Rattle.soundness_reach.specs.declared.StateFound.TheVariants.{At, Nowhere}
-use Rattle.soundness_reach.specs.declared.StateFound.{StateFound}
+use Rattle.std.specs.Prelude.{Option as Found, Some, None}
 
 -- the marks, and the words that are left
 abbrev pub Marking : Machine → ℕ → List Word → List ℕ → List Word → Type 0
@@ -56,16 +56,16 @@ module _ (s : List ℕ) (table k n cover covers : ℕ) where
   abbrev all : List Word
   all = words_at s cover covers
 
-  pub marking_start : (marks : List ℕ) → n ≤ 64 → marks ≡ unmarked → Marking M n all marks all
-  marking_start marks few e q h = rw (e, unlit q (omega arith))
+  pub marking_start : (marks : List ℕ) → n ≤ 64 → marks ≡ unmarked → Marking M n all marks (words_at s cover (covers - 0))
+  marking_start marks few e q h = rw (sub-zero covers, e, unlit q (omega arith))
 
-  pub marking_next : (marks : List ℕ) (p c len j : ℕ) → 0 < c → WordsAt s p k c → len ≡ get_or s p 0 → j ≡ after M 0 (word_at s p) → j < length marks
-      → Marking M n all marks (words_at s p c) → Marking M n all (set marks j 1) (words_at s (p + 1 + len) (c - 1))
-  marking_next marks p c len j left stand place is inside old =
-      rw place (marking_step M n all marks (word_at s p) (words_at s (after_word s p) (c - 1)) j (rw (word_turn s p k c left stand).words at old) is inside)
+  pub marking_next : (marks : List ℕ) (p c i j : ℕ) → i < c → WordsAt s p k (c - i) → j ≡ after M 0 (word_at s p) → j < length marks
+      → Marking M n all marks (words_at s p (c - i)) → Marking M n all (set marks j 1) (words_at s (after_word s p) (c - (i + 1)))
+  marking_next marks p c i j less stand is inside old =
+      marking_step M n all marks (word_at s p) (words_at s (after_word s p) (c - (i + 1))) j (rw (turn s p k c i less stand).words at old) is inside
 
-  pub marking_end : (marks : List ℕ) (p c : ℕ) → c ≤ 0 → Marking M n all marks (words_at s p c) → (q : ℕ) → q < n → lit marks q ≡ any (reaches M q) all
-  marking_end marks p c done old q h = sym (or_false_right (lit marks q)) ∙ (rw (words_end s p c done) at old) q h
+  pub marking_end : (marks : List ℕ) (p c i : ℕ) → c ≤ i → Marking M n all marks (words_at s p (c - i)) → (q : ℕ) → q < n → lit marks q ≡ any (reaches M q) all
+  marking_end marks p c i done old q h = sym (or_false_right (lit marks q)) ∙ (rw (turns_end s p c i done) at old) q h
     where
       or_false_right : (a : Bool) → (a || false) ≡ a
       or_false_right true = refl
@@ -93,14 +93,14 @@ lit-lacks M cover marks q e other = rw (← e, ne_eqb (get_or marks q 0) 0 other
 pub lowest_start : (test : ℕ → Bool) (n : ℕ) → first test (numbers n) ≡ first test (numbers_from 0 (n - 0))
 lowest_start test n = let same : n - 0 ≡ n = omega arith in rw same
 
-pub state_found_lem : (x : GoldenState) (q : ℕ) (o : Option ℕ) → x.0 ≡ q → o ≡ some q → At x ≡ state_found o
+pub state_found_lem : (x : GoldenState) (q : ℕ) (o : Option ℕ) → x.0 ≡ q → o ≡ some q → Some x ≡ state_found o
 state_found_lem x q o e is = rw (is, ← e)
 
 -- what a state that was found, or none, says of the search
-pub state_at_lem : (o : Option ℕ) (found : StateFound) (x : GoldenState) → found ≡ state_found o → found ≡ At x → o ≡ some x.0
+pub state_at_lem : (o : Option ℕ) (found : Found GoldenState) (x : GoldenState) → found ≡ state_found o → found ≡ Some x → o ≡ some x.0
 state_at_lem none found x e is = let z : ◌≡◌ {A = ℕ} 0 1 = cc in absurd (omega arith)
-state_at_lem (some q) found x e is = let same : At (record { 0 = q }) ≡ At x = sym e ∙ is in ap (λ (y : GoldenState). some y.0) (cc)
+state_at_lem (some q) found x e is = let same : Some (record { 0 = q }) ≡ Some x = sym e ∙ is in ap (λ (y : GoldenState). some y.0) (cc)
 
-pub state_nowhere : (o : Option ℕ) (found : StateFound) → found ≡ state_found o → found ≡ Nowhere → o ≡ none
+pub state_nowhere : (o : Option ℕ) (found : Found GoldenState) → found ≡ state_found o → found ≡ None → o ≡ none
 state_nowhere none found e is = refl
 state_nowhere (some q) found e is = let z : ◌≡◌ {A = ℕ} 0 1 = cc in absurd (omega arith)

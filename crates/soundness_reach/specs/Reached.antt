@@ -5,8 +5,8 @@ use Rattle.rules.specs.Lists.{any}
 use Rattle.rules.specs.Words.{Word}
 use Rattle.rules.specs.Machines.{Machine, after}
 use Rattle.rules.specs.Answers.{golden_state}
-use Rattle.soundness_reach.specs.declared.StateFound.{StateFound}
-use Rattle.soundness_reach.specs.declared.StateFound.TheVariants.{Nowhere, At}
+use Rattle.rules.specs.declared.GoldenState.{GoldenState}
+use Rattle.std.specs.Prelude.{Option as Found, Some, None}
 
 -- no marks
 unfoldable pub unmarked : List ℕ
@@ -24,6 +24,7 @@ reaches M q c = eqb (after M 0 c) q
 abbrev pub lacks : Machine → List Word → ℕ → Bool
 lacks M cover q = not (any (reaches M q) cover)
 
-abbrev pub state_found : Option ℕ → StateFound
-state_found none = Nowhere
-state_found (some q) = At (golden_state q)
+-- the state of a number that was found
+abbrev pub state_found : Option ℕ → Found GoldenState
+state_found none = None
+state_found (some q) = Some (golden_state q)

@@ -4,22 +4,16 @@
 ghost use Rattle.std.specs.Prelude.{◌≡◌, ℕ, ◌+◌, ◌≤◌, ◌<◌};
 ghost use Rattle.rules.specs.Lists.{any, first, numbers};
 ghost use Rattle.rules.specs.Machines.{after};
-ghost use Rattle.reader.specs.Places.{machine_at, word_at, words_at, TableAt, WordAt, WordsAt};
+ghost use Rattle.reader.specs.Places.{word_at, words_at, WordAt, WordsAt};
+ghost use Rattle.walker.specs.Machines.{machine_in};
 ghost use Rattle.soundness_reach.specs.Reached.{unmarked, lit, reaches, lacks, state_found};
 
 use rules::GoldenState;
-use walker::{golden_after, word_length};
+use walker::{Table, state_after, word_end};
 
 mod words;
 
 pub use words::has_empty_word;
-
-// The lowest state that a search found.
-#[derive(Clone, Copy)]
-pub enum StateFound {
-    Nowhere,
-    At(GoldenState),
-}
 
 // No marks. A function of its own, so that no goal of another function writes out 64 zeros.
 fn blank() -> [u8; 64]
@@ -29,63 +23,44 @@ fn blank() -> [u8; 64]
 }
 
 // The state that a word reaches from 0.
-fn reached_by(bytes: &[u8], table: usize, inputs: u8, states: u8, word: usize) -> GoldenState
-    requires table_at { TableAt bytes.now table inputs states }
-    requires word_at { WordAt bytes.now word inputs }
-    ensures { (result.0 ≡ after (machine_at bytes.now table inputs states) 0 (word_at bytes.now word)) × (result.0 < states) }
+fn reached_by(golden: &Table<'_, GoldenState>, word: usize) -> GoldenState
+    requires { WordAt golden.now.bytes.now word golden.now.inputs }
+    ensures { (result.0 ≡ after (machine_in golden.now) 0 (word_at golden.now.bytes.now word)) × (result.0 < golden.now.states) }
 {
-    golden_after(bytes, table, inputs, states, GoldenState::numbered(0), word)
+    state_after(golden, GoldenState::numbered(0), golden.bytes, word)
 }
 
-// A mark for each state that a cover word reaches from 0.
-fn reached(
-    bytes: &[u8],
-    table: usize,
-    inputs: u8,
-    states: u8,
-    cover: usize,
-    covers: usize,
-) -> [u8; 64]
-    requires table_at { TableAt bytes.now table inputs states }
-    requires states_bound { states ≤ 64 }
-    requires words_at { WordsAt bytes.now cover inputs covers }
-    ensures { (q : ℕ) → q < states → lit result q ≡ any (reaches (machine_at bytes.now table inputs states) q) (words_at bytes.now cover covers) }
+// A mark for each state that a cover word reaches from 0. The cover stands in the golden's file.
+fn reached(golden: &Table<'_, GoldenState>, cover: usize, covers: usize) -> [u8; 64]
+    requires states_bound { golden.now.states ≤ 64 }
+    requires words_at { WordsAt golden.now.bytes.now cover golden.now.inputs covers }
+    ensures { (q : ℕ) → q < golden.now.states → lit result q ≡ any (reaches (machine_in golden.now) q) (words_at golden.now.bytes.now cover covers) }
 {
     let mut marks = blank();
-    let mut left = covers;
     let mut word = cover;
-    while 0 < left {
-        let n = word_length(bytes, word);
-        let state = reached_by(bytes, table, inputs, states, word);
+    for _ in 0..covers {
+        let state = reached_by(golden, word);
         marks[state.number() as usize] = 1;
-        word = word + 1 + n;
-        left -= 1;
+        word = word_end(golden.bytes, word);
     }
     marks
 }
 
 // The lowest state that no cover word reaches.
 pub fn unreached(
-    bytes: &[u8],
-    table: usize,
-    inputs: u8,
-    states: u8,
+    golden: &Table<'_, GoldenState>,
     cover: usize,
     covers: usize,
-) -> StateFound
-    requires table_at { TableAt bytes.now table inputs states }
-    requires states_bound { states ≤ 64 }
-    requires words_at { WordsAt bytes.now cover inputs covers }
-    ensures { result ≡ state_found (first (lacks (machine_at bytes.now table inputs states) (words_at bytes.now cover covers)) (numbers states)) }
+) -> Option<GoldenState>
+    requires states_bound { golden.now.states ≤ 64 }
+    requires words_at { WordsAt golden.now.bytes.now cover golden.now.inputs covers }
+    ensures { result ≡ state_found (first (lacks (machine_in golden.now) (words_at golden.now.bytes.now cover covers)) (numbers golden.now.states)) }
 {
-    let marks = reached(bytes, table, inputs, states, cover, covers);
-    let mut q = 0;
-    while q < states {
-        let mark = marks[q as usize];
-        if mark == 0 {
-            return StateFound::At(GoldenState::numbered(q));
+    let marks = reached(golden, cover, covers);
+    for q in 0..golden.states {
+        if marks[q as usize] == 0 {
+            return Some(GoldenState::numbered(q));
         }
-        q += 1;
     }
-    StateFound::Nowhere
+    None
 }

@@ -10,7 +10,8 @@ use lib.ListN.{length, get_or, set, length-set}
 use lib.Seq.{get_or-set_same, get_or-set_other}
 use borrow.Author.Tests.{eq-eqb, ne_eqb}
 use Rattle.trie.specs.Model.{Trie, root, grow, size, child_in, first_of, next_of, label_of, Proper, proper_root, proper_grow}
-use Rattle.trie.specs.Holds.{Holds}
+use Rattle.std.specs.Prelude.{Some, None}
+use Rattle.trie.specs.Holds.{Holds, ChildOf}
 use Rattle.trie.specs.Grow.{size_pos, size-grow}
 
 pub first_lt : (t : Trie) (p : ℕ) → first_of t p < size t
@@ -176,8 +177,8 @@ module _ (t : Trie) (l f n : List ℕ) (h : Holds t l f n) (p a j : ℕ) where
       let k : j ≡ first_of t p = e ∙ h.firsts p less in
       (omega (arith, first_lt t p), rw k (seek_first t p a))
 
-  pub along_here : Along t p a j → (j ≡ 0 → ⊥) → get_or l j 0 ≡ a → j ≡ child_in t p a
-  along_here at pos e = sym (at.1 ∙ seek_here t j a (omega arith) at.0 (sym (h.labels j at.0) ∙ e))
+  pub along_here : Along t p a j → (j ≡ 0 → ⊥) → get_or l j 0 ≡ a → ChildOf t p a (Some j)
+  along_here at pos e = (sym (at.1 ∙ seek_here t j a (omega arith) at.0 (sym (h.labels j at.0) ∙ e)), omega arith)
 
   pub along_next : (k : ℕ) → Along t p a j → (j ≡ 0 → ⊥) → (get_or l j 0 ≡ a → ⊥) → k ≡ get_or n j 0 → Along t p a k
   along_next k at pos o e =
@@ -186,8 +187,8 @@ module _ (t : Trie) (l f n : List ℕ) (h : Holds t l f n) (p a j : ℕ) where
       let at0 : j < size t = at.0 in
       (omega arith, rw m (at.1 ∙ seek_next t j a (omega arith) at0 (λ x. o (h.labels j at0 ∙ x))))
 
-  pub along_end : Along t p a j → j ≡ 0 → 0 ≡ child_in t p a
-  along_end at e = sym (at.1 ∙ rw e (seek_zero t a))
+  pub along_end : Along t p a j → j ≡ 0 → ChildOf t p a None
+  along_end at e = at.1 ∙ rw e (seek_zero t a)
 
 -- the arrays of the empty trie
 pub started : (l f n : List ℕ) → 0 < length l → length l ≤ 65536 → length f ≡ length l → length n ≡ length l

@@ -8,11 +8,9 @@ use Rattle.rules.specs.Words.{Word}
 use lib.ListN.{length, get_or, drop, drop_of_length-le}
 use lib.Seq.{drop-cons}
 use borrow.Author.Tests.{eq-eqb, ne_eqb}
-use Rattle.trie.specs.Model.{Trie, grow, size, child_in, walk_from, step_trie, step_node, add_word, end_of}
-use Rattle.trie.specs.Holds.{Holds, StepOf}
-use Rattle.trie.specs.declared.Walked.TheVariants.{At, Off}
-use Rattle.trie.specs.declared.Stepped.{Stepped}
-use Rattle.trie.specs.declared.Stepped.TheVariants.{To, Full}
+use Rattle.trie.specs.Model.{Trie, grow, size, walk_from, step_trie, step_node, add_word, end_of}
+use Rattle.trie.specs.Holds.{Holds, ChildOf, StepOf, InsertOf}
+use Rattle.std.specs.Prelude.{Option, Some, None}
 use Rattle.trie.specs.Grow.{size-grow, same_trie, same_node, new_trie, new_node, step_node_lt, add_grows}
 
 -- what is left of a word at i: its input there, and what is left at i + 1
@@ -20,28 +18,31 @@ left_cons : (w : Word) (i : ℕ) → i < length w → drop i w ≡ get_or w i 0 
 left_cons w i less = rw (add-one, drop-cons w i 0 less)
 
 module _ (t : Trie) (node : ℕ) (w : Word) (i : ℕ) where
-  pub walk_step : (j : ℕ) → i < length w → j ≡ child_in t node (get_or w i 0) → (j ≡ 0 → ⊥) → walk_from t node (drop i w) ≡ walk_from t j (drop (i + 1) w)
+  pub walk_step : (a j : ℕ) → a ≡ get_or w i 0 → i < length w → ChildOf t node a (Some j) → walk_from t node (drop i w) ≡ walk_from t j (drop (i + 1) w)
   unfolding walk_from
-  walk_step j less e n = rw (left_cons w i less, ← e, ne_eqb j 0 n)
+  walk_step a j k less (e, pos) = rw (left_cons w i less, ← k, ← e, ne_eqb j 0 (λ z. omega arith))
 
-  pub walk_off : (j : ℕ) → i < length w → j ≡ child_in t node (get_or w i 0) → j ≡ 0 → walk_from t node (drop i w) ≡ Off
+  pub walk_off : (a : ℕ) → a ≡ get_or w i 0 → i < length w → ChildOf t node a None → walk_from t node (drop i w) ≡ None
   unfolding walk_from
-  walk_off j less e z = rw (left_cons w i less, ← e, eq-eqb j 0 z)
+  walk_off a k less z = rw (left_cons w i less, ← k, eq-eqb _ 0 z)
 
-  pub walk_end : length w ≤ i → walk_from t node (drop i w) ≡ At node
+  pub walk_end : length w ≤ i → walk_from t node (drop i w) ≡ Some node
   unfolding walk_from
   walk_end h = rw (drop_of_length-le w h)
 
-module _ (t : Trie) (p a j : ℕ) (e : j ≡ child_in t p a) (l f n : List ℕ) (count : ℕ) (k : count ≡ size t) where
-  pub step_kept : Holds t l f n → (j ≡ 0 → ⊥) → StepOf t p a l f n (To j count)
-  step_kept h o = (same_node t p a j e o, k ∙ ap size (sym (same_trie t p a j e o)), rw (same_trie t p a j e o) h)
+module _ (t : Trie) (p a : ℕ) (l f n : List ℕ) (count : ℕ) (k : count ≡ size t) where
+  pub step_kept : (r : Option ℕ) (j : ℕ) → ChildOf t p a r → r ≡ Some j → Holds t l f n → StepOf t p a l f n (Some (j, count))
+  step_kept r j at is h =
+      let (e, pos) = rw is at at in
+      let o : j ≡ 0 → ⊥ = λ z. omega arith in
+      (same_node t p a j e o, k ∙ ap size (sym (same_trie t p a j e o)), rw (same_trie t p a j e o) h)
 
-  pub step_made : (m : ℕ) → Holds (grow t p a) l f n → j ≡ 0 → m ≡ count + 1 → StepOf t p a l f n (To count m)
-  step_made m h z r =
-      (k ∙ sym (new_node t p a j e z), rw (new_trie t p a j e z, size-grow t p a) (omega arith), rw (new_trie t p a j e z) h)
+  pub step_made : (m : ℕ) → ChildOf t p a None → Holds (grow t p a) l f n → m ≡ count + 1 → StepOf t p a l f n (Some (count, m))
+  step_made m z h r =
+      (k ∙ sym (new_node t p a 0 (sym z) refl), rw (new_trie t p a 0 (sym z) refl, size-grow t p a) (omega arith), rw (new_trie t p a 0 (sym z) refl) h)
 
-  pub step_full : j ≡ 0 → length l ≤ count → StepOf t p a l f n Full
-  step_full z full = rw (new_trie t p a j e z, size-grow t p a) (omega arith)
+  pub step_full : ChildOf t p a None → length l ≤ count → StepOf t p a l f n None
+  step_full z full = rw (new_trie t p a 0 (sym z) refl, size-grow t p a) (omega arith)
 
 -- where putting w into t from the node p stands: i inputs are in, at the node `node`, and the arrays hold the trie so far, of m nodes
 pub record Inserting (t : Trie) (p : ℕ) (w : Word) (i node m : ℕ) (l f n : List ℕ) : Type 0 where
@@ -57,11 +58,10 @@ inserting_start t p w l f n count h k less =
     record { trie = t; holds = h; counted = k; below = omega arith; grows = refl; ends = refl }
 
 module _ (t : Trie) (p : ℕ) (w : Word) (i node m : ℕ) (l f n : List ℕ) (s : Inserting t p w i node m l f n) where
-  pub inserting_next : (l' f' n' : List ℕ) (r : Stepped) (j k : ℕ) → i < length w → StepOf s.trie node (get_or w i 0) l' f' n' r → r ≡ To j k → Inserting t p w (i + 1) j k l' f' n'
+  pub inserting_next : (l' f' n' : List ℕ) (j k : ℕ) → i < length w → StepOf s.trie node (get_or w i 0) l' f' n' (Some (j, k)) → Inserting t p w (i + 1) j k l' f' n'
   unfolding add_word end_of
-  inserting_next l' f' n' r j k less step e =
+  inserting_next l' f' n' j k less st =
       let a = get_or w i 0 in
-      let st : StepOf s.trie node a l' f' n' (To j k) = rw e at step in
       record {
         trie = step_trie s.trie node a;
         holds = st.2;
@@ -71,15 +71,14 @@ module _ (t : Trie) (p : ℕ) (w : Word) (i node m : ℕ) (l f n : List ℕ) (s 
         ends = s.ends ∙ rw (left_cons w i less, st.0);
       }
 
-  pub inserting_full : (l' f' n' : List ℕ) (r : Stepped) → i < length w → StepOf s.trie node (get_or w i 0) l' f' n' r → r ≡ Full → length l' < size (add_word t p w)
+  pub inserting_full : (l' f' n' : List ℕ) → i < length w → StepOf s.trie node (get_or w i 0) l' f' n' None → InsertOf t p w l' f' n' None
   unfolding add_word
-  inserting_full l' f' n' r less step e =
+  inserting_full l' f' n' less st =
       let a = get_or w i 0 in
-      let st : length l' < size (step_trie s.trie node a) = rw e at step in
       rw (s.grows, left_cons w i less)
       (omega (arith, add_grows (step_trie s.trie node a) (step_node s.trie node a) (drop (i + 1) w)))
 
-  pub inserting_end : length w ≤ i → (node ≡ end_of t p w) × (m ≡ size (add_word t p w)) × Holds (add_word t p w) l f n
+  pub inserting_end : length w ≤ i → InsertOf t p w l f n (Some (node, m))
   unfolding add_word end_of
   inserting_end done =
       let e : drop i w ≡ [] = drop_of_length-le w done in

@@ -1,8 +1,6 @@
 -- A trie over words: nodes are numbers, node 0 is the root, and each further node was made under an earlier one with a label.
-use Rattle.std.specs.Prelude.{ℕ, suc, ◌<◌, ◌≡◌, List, [], ◌∷◌, ◌++◌, cond, eqb}
+use Rattle.std.specs.Prelude.{ℕ, suc, ◌<◌, ◌≡◌, List, [], ◌∷◌, ◌++◌, cond, eqb, Option, Some, None}
 use Rattle.rules.specs.Words.{Word}
-use Rattle.trie.specs.declared.Walked.{Walked}
-use Rattle.trie.specs.declared.Walked.TheVariants.{At, Off}
 
 -- `grow t p a` is t with one node more, whose number is t's size, under the node p and with the label a
 pub data Trie : Type 0 where
@@ -37,10 +35,10 @@ unfoldable pub word_of : Trie → ℕ → List ℕ
 word_of root i = []
 word_of (grow t q b) i = cond (eqb i (size t)) (word_of t q ++ (b ∷ [])) (word_of t i)
 
--- from the node i along the word
-unfoldable pub walk_from : Trie → ℕ → List ℕ → Walked
-walk_from t i [] = At i
-walk_from t i (a ∷ w) = cond (eqb (child_in t i a) 0) Off (walk_from t (child_in t i a) w)
+-- from the node i along the word, or none where the walk leaves the trie
+unfoldable pub walk_from : Trie → ℕ → List ℕ → Option ℕ
+walk_from t i [] = Some i
+walk_from t i (a ∷ w) = cond (eqb (child_in t i a) 0) None (walk_from t (child_in t i a) w)
 
 -- t with a node under i with the label a, new if there was none, and that node
 unfoldable pub step_trie : Trie → ℕ → ℕ → Trie

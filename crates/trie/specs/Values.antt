@@ -1,5 +1,5 @@
 -- Numbers by node: what an operation remembers of words. A node has the number of its word, or 0.
-use Rattle.std.specs.Prelude.{ℕ, ◌≤◌, ◌<◌, ◌≡◌, refl, List, [], ◌∷◌, Bool, true, false, cond, not, ◌||◌, eqb, length, get_or, set}
+use Rattle.std.specs.Prelude.{ℕ, ◌≤◌, ◌<◌, ◌≡◌, refl, List, [], ◌∷◌, Bool, true, false, cond, not, ◌||◌, eqb, length, get_or, set, Option, Some, None}
 use Rattle.std.proofs.Common.{sym, ap, ◌∙◌, inl, inr, arith, get_or-set_same, get_or-set_other}
 use Rattle.std.proofs.Math.Decide.{ℕ_discrete, dec_lt}
 use Rattle.rules.specs.Words.{Word, same, is_in}
@@ -8,11 +8,7 @@ use Rattle.theory.specs.Words.{same_true, same_refl, same_false, differ_same}
 use Rattle.trie.specs.Model.{Trie, size, word_of, walk_from, Proper, add_word, end_of}
 use Rattle.trie.specs.Holds.{Holds, InsertOf}
 use Rattle.trie.specs.Grow.{size_pos, add_proper, add_grows}
-use Rattle.trie.specs.Words.{Has, one_to_one, word_root, walk_word, add_word_kept, has_add_old, end_word, has_reaches}
-use Rattle.trie.specs.declared.Walked.{Walked}
-use Rattle.trie.specs.declared.Walked.TheVariants.{At, Off}
-use Rattle.trie.specs.declared.Inserted.{Inserted}
-use Rattle.trie.specs.declared.Inserted.TheVariants as inserted
+use Rattle.trie.specs.Words.{Has, one_to_one, root_walk, add_word_kept, has_add_old, end_word, has_reaches}
 
 -- numbers that were put for words, the last one outermost
 pub data Map : Type 0 where
@@ -95,23 +91,22 @@ noted_put t m value p h node v less fits =
     }
 
 -- what a look_up answers
-pub reached : (t : Trie) (w : Word) → Proper t → (r : Walked) (i : ℕ) → r ≡ walk_from t 0 w → r ≡ At i → i < size t
-reached t w v r i e k = (walk_word v 0 i w (size_pos t) (sym e ∙ k)).0
+pub reached : (t : Trie) (w : Word) → Proper t → (r : Option ℕ) (i : ℕ) → r ≡ walk_from t 0 w → r ≡ Some i → i < size t
+reached t w v r i e k = (root_walk v w r i e k).0
 
-pub found : (t : Trie) (m : Map) (w : Word) (value : List ℕ) → Proper t → Noted t m value → (r : Walked) (i : ℕ) → r ≡ walk_from t 0 w → r ≡ At i
+pub found : (t : Trie) (m : Map) (w : Word) (value : List ℕ) → Proper t → Noted t m value → (r : Option ℕ) (i : ℕ) → r ≡ walk_from t 0 w → r ≡ Some i
     → (i < size t) × (get_or value i 0 ≡ value_of m w)
 found t m w value v h r i e k =
-    let (less, word) = walk_word v 0 i w (size_pos t) (sym e ∙ k) in
-    (less, h.values i less ∙ rw (word, word_root t))
+    let (less, word) = root_walk v w r i e k in (less, h.values i less ∙ rw word)
 
-pub missed : (t : Trie) (m : Map) (w : Word) (value : List ℕ) → Proper t → Noted t m value → (r : Walked) → r ≡ walk_from t 0 w → r ≡ Off → 0 ≡ value_of m w
+pub missed : (t : Trie) (m : Map) (w : Word) (value : List ℕ) → Proper t → Noted t m value → (r : Option ℕ) → r ≡ walk_from t 0 w → r ≡ None → 0 ≡ value_of m w
 missed t m w value v h r e k =
     sym (value_none t m value h w (λ has.
     let (j, f) = has_reaches v w has in
     let z : ◌≡◌ {A = ℕ} 0 1 = cc in
     omega arith))
 
-module _ (t : Trie) (w : Word) (l f n : List ℕ) (r : Inserted) (node k : ℕ) (v : Proper t) (done : InsertOf t 0 w l f n r) (e : r ≡ inserted.Put node k) where
+module _ (t : Trie) (w : Word) (l f n : List ℕ) (r : Option (ℕ × ℕ)) (node k : ℕ) (v : Proper t) (done : InsertOf t 0 w l f n r) (e : r ≡ Some (node, k)) where
   pub insert_done : (node ≡ end_of t 0 w) × (k ≡ size (add_word t 0 w)) × Holds (add_word t 0 w) l f n
   insert_done = rw e at done
 

@@ -1,5 +1,5 @@
 -- What a trie has of the words that were put in: its nodes are, one to one, the beginnings of those words.
-use Rattle.std.specs.Prelude.{ℕ, suc, ◌+◌, ◌≤◌, ◌<◌, ◌≡◌, refl, List, map, [], ◌∷◌, ◌++◌, true, false, ◌⊎◌, ◌↔◌, length}
+use Rattle.std.specs.Prelude.{ℕ, suc, ◌+◌, ◌≤◌, ◌<◌, ◌≡◌, refl, List, map, [], ◌∷◌, ◌++◌, true, false, ◌⊎◌, ◌↔◌, length, Option, Some, None}
 use Rattle.std.proofs.Common.{sym, ap, ◌∙◌, append_assoc, append-nil, inl, inr, arith, eq-eqb, ne_eqb}
 use mathlib.Core.List.Memᴰ
 use Rattle.std.proofs.Math.Decide.{ℕ_discrete, dec_lt}
@@ -9,12 +9,10 @@ use Rattle.theory.specs.Lists.{outcome, any-true, any_of}
 use Rattle.theory.specs.Words.{begins-true, begins_of}
 use Rattle.trie.specs.Model.{Trie, root, grow, size, child_in, word_of, walk_from, Proper, proper_root, proper_grow, step_trie, step_node, add_word, end_of, add_all, holding}
 use Rattle.trie.specs.Grow.{size_pos, size-grow, child_lt, child_new, child_other, by_step, step_node_lt, step_grows, step_proper, add_proper}
-use Rattle.trie.specs.declared.Walked.{Walked}
-use Rattle.trie.specs.declared.Walked.TheVariants.{At, Off}
 
 -- a walk along the word from the root succeeds
 abbrev pub Reaches : Trie → Word → Type 0
-Reaches t w = (j : ℕ) × (walk_from t 0 w ≡ At j)
+Reaches t w = (j : ℕ) × (walk_from t 0 w ≡ Some j)
 
 -- some node has the word
 abbrev pub Has : Trie → Word → Type 0
@@ -101,16 +99,16 @@ pub walk_some : (t : Trie) (i a : ℕ) (w : Word) → (child_in t i a ≡ 0 → 
 unfolding walk_from
 walk_some t i a w n = rw (ne_eqb (child_in t i a) 0 n)
 
-pub walk_none : (t : Trie) (i a : ℕ) (w : Word) → child_in t i a ≡ 0 → walk_from t i (a ∷ w) ≡ Off
+pub walk_none : (t : Trie) (i a : ℕ) (w : Word) → child_in t i a ≡ 0 → walk_from t i (a ∷ w) ≡ None
 unfolding walk_from
 walk_none t i a w z = rw (eq-eqb (child_in t i a) 0 z)
 
-pub off_at : {A : Type 0} (r : Walked) (j : ℕ) → r ≡ Off → r ≡ At j → A
+pub off_at : {A : Type 0} (r : Option ℕ) (j : ℕ) → r ≡ None → r ≡ Some j → A
 off_at r j e f =
     let z : ◌≡◌ {A = ℕ} 0 1 = cc in absurd (omega arith)
 
 -- a walk along a word from a node ends at the node of that node's word and the word
-pub walk_word : {t : Trie} → Proper t → (i j : ℕ) (w : Word) → i < size t → walk_from t i w ≡ At j → (j < size t) × (word_of t j ≡ word_of t i ++ w)
+pub walk_word : {t : Trie} → Proper t → (i j : ℕ) (w : Word) → i < size t → walk_from t i w ≡ Some j → (j < size t) × (word_of t j ≡ word_of t i ++ w)
 unfolding walk_from
 walk_word {t} v i j [] h e =
     let k : i ≡ j = cc in (omega arith, rw (← k) (sym (append-nil _)))
@@ -122,8 +120,13 @@ walk_word {t} v i j (a ∷ w) h e =
           (less, word ∙ rw (child_word v i a n, append_assoc))
     ]
 
+-- a walk along a word from the root ends at the node of that word
+pub root_walk : {t : Trie} → Proper t → (w : Word) (r : Option ℕ) (j : ℕ) → r ≡ walk_from t 0 w → r ≡ Some j → (j < size t) × (word_of t j ≡ w)
+root_walk {t} v w r j walked at =
+    let (less, word) = walk_word v 0 j w (size_pos t) (sym walked ∙ at) in (less, word ∙ rw (word_root t))
+
 -- a walk goes on where its first part ended
-pub walk_on : (t : Trie) (i j : ℕ) (u w : Word) → walk_from t i u ≡ At j → walk_from t i (u ++ w) ≡ walk_from t j w
+pub walk_on : (t : Trie) (i j : ℕ) (u w : Word) → walk_from t i u ≡ Some j → walk_from t i (u ++ w) ≡ walk_from t j w
 unfolding walk_from
 walk_on t i j [] w e =
     let k : i ≡ j = cc in rw k
@@ -134,7 +137,7 @@ walk_on t i j (a ∷ u) w e =
     ]
 
 -- a walk that succeeds is as before when a node was added
-pub walk_kept : (t : Trie) (q b : ℕ) → child_in t q b ≡ 0 → (i j : ℕ) (w : Word) → walk_from t i w ≡ At j → walk_from (grow t q b) i w ≡ At j
+pub walk_kept : (t : Trie) (q b : ℕ) → child_in t q b ≡ 0 → (i j : ℕ) (w : Word) → walk_from t i w ≡ Some j → walk_from (grow t q b) i w ≡ Some j
 unfolding walk_from
 walk_kept t q b new i j [] e = e
 walk_kept t q b new i j (a ∷ w) e =
@@ -146,13 +149,13 @@ walk_kept t q b new i j (a ∷ w) e =
           ∙ rw k (walk_kept t q b new (child_in t i a) j w (sym (walk_some t i a w n) ∙ e))
     ]
 
-walk_one : (t : Trie) (q b : ℕ) → 0 < size t → walk_from (grow t q b) q (b ∷ []) ≡ At (size t)
+walk_one : (t : Trie) (q b : ℕ) → 0 < size t → walk_from (grow t q b) q (b ∷ []) ≡ Some (size t)
 unfolding walk_from
 walk_one t q b pos =
     walk_some (grow t q b) q b [] (λ z. omega (arith, child_new t q b)) ∙ rw (child_new t q b)
 
 -- each node is found by its word
-pub walk_at : {t : Trie} → Proper t → (i : ℕ) → i < size t → walk_from t 0 (word_of t i) ≡ At i
+pub walk_at : {t : Trie} → Proper t → (i : ℕ) → i < size t → walk_from t 0 (word_of t i) ≡ Some i
 unfolding walk_from size word_of
 walk_at proper_root i h =
     let z : i ≡ 0 = omega arith in rw z
@@ -329,7 +332,7 @@ reaches_any v ws w = (
 )
 
 -- two words lead to one node exactly where they are equal
-pub walks_meet : {t : Trie} → Proper t → (u w : Word) (i j : ℕ) → walk_from t 0 u ≡ At i → walk_from t 0 w ≡ At j → (i ≡ j) ↔ (u ≡ w)
+pub walks_meet : {t : Trie} → Proper t → (u w : Word) (i j : ℕ) → walk_from t 0 u ≡ Some i → walk_from t 0 w ≡ Some j → (i ≡ j) ↔ (u ≡ w)
 walks_meet {t} v u w i j e f = (
   λ same.
       let (less, word) = walk_word v 0 i u (size_pos t) e in
@@ -343,10 +346,10 @@ walks_meet {t} v u w i j e f = (
 
 -- what a walk from the root says
 
-pub begins_at : (v : Word) (ws : List Word) (w : Word) (r : Walked) (j : ℕ) → r ≡ walk_from (holding (v ∷ ws)) 0 w → r ≡ At j → true ≡ any (begins w) (v ∷ ws)
+pub begins_at : (v : Word) (ws : List Word) (w : Word) (r : Option ℕ) (j : ℕ) → r ≡ walk_from (holding (v ∷ ws)) 0 w → r ≡ Some j → true ≡ any (begins w) (v ∷ ws)
 begins_at v ws w r j e k = sym ((reaches_any v ws w).0 (j, sym e ∙ k))
 
-pub begins_off : (v : Word) (ws : List Word) (w : Word) (r : Walked) → r ≡ walk_from (holding (v ∷ ws)) 0 w → r ≡ Off → false ≡ any (begins w) (v ∷ ws)
+pub begins_off : (v : Word) (ws : List Word) (w : Word) (r : Option ℕ) → r ≡ walk_from (holding (v ∷ ws)) 0 w → r ≡ None → false ≡ any (begins w) (v ∷ ws)
 begins_off v ws w r e k =
     elim (outcome (any (begins w) (v ∷ ws))) [
       | inl h ↦ let (j, f) = (reaches_any v ws w).1 h in off_at _ j (sym e ∙ k) f

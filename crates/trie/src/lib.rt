@@ -5,31 +5,19 @@
 ghost use Rattle.std.specs.Prelude.{◌≡◌, ◌+◌, ◌≤◌, ◌<◌, List, [], ◌∷◌, length};
 ghost use Rattle.rules.specs.Words.{Word, is_in};
 ghost use Rattle.trie.specs.Model.{Trie, root, grow, size, child_in, word_of, walk_from, Proper};
-ghost use Rattle.trie.specs.Holds.{Holds, Node, Counted, StepOf, InsertOf};
+ghost use Rattle.trie.specs.Holds.{Holds, Node, Counted, ChildOf, StepOf, InsertOf};
 ghost use Rattle.trie.specs.Values.{Map, empty, put, value_of, marks_of, Noted};
 
 use numbers::wide_link;
 use rules::Input;
 
-// The node that a walk reaches, or none.
+// The three arrays of a trie, for a function that only reads them. One that writes is lent them apart, since its promise says of each
+// what it holds afterwards.
 #[derive(Clone, Copy)]
-pub enum Walked {
-    At(usize),
-    Off,
-}
-
-// The node of a step, and how many nodes there are then; or no room.
-#[derive(Clone, Copy)]
-pub enum Stepped {
-    To(usize, usize),
-    Full,
-}
-
-// The node of a word's end, and how many nodes there are then; or no room.
-#[derive(Clone, Copy)]
-pub enum Inserted {
-    Put(usize, usize),
-    Full,
+pub struct Nodes<'a> {
+    pub label: &'a [u8],
+    pub first: &'a [u16],
+    pub next: &'a [u16],
 }
 
 // The empty trie: one node, the root.
@@ -44,20 +32,20 @@ pub fn start(label: &mut [u8], first: &mut [u16], next: &mut [u16]) -> usize
     1
 }
 
-// The node under p with the label a, or 0.
-pub fn child(label: &[u8], first: &[u16], next: &[u16], p: usize, a: Input) -> usize
-    requires { Node label.now first.now next.now p }
-    ensures { (t : Trie) → Holds t label.now first.now next.now → p < size t → result ≡ child_in t p a.0 }
+// The node under p with the label a.
+pub fn child(nodes: Nodes, p: usize, a: Input) -> Option<usize>
+    requires { Node nodes.label.now nodes.first.now nodes.next.now p }
+    ensures { (t : Trie) → Holds t nodes.entry.label.now nodes.entry.first.now nodes.entry.next.now → p < size t → ChildOf t p a.0 result }
 {
     let wanted = a.number();
-    let mut j = wide_link(first[p]);
+    let mut j = wide_link(nodes.first[p]);
     while j != 0 {
-        if label[j] == wanted {
-            return j;
+        if nodes.label[j] == wanted {
+            return Some(j);
         }
-        j = wide_link(next[j]);
+        j = wide_link(nodes.next[j]);
     }
-    0
+    None
 }
 
 // One node more, the node `count`, under p with the label a. The answer is the new count.
@@ -80,25 +68,19 @@ fn add(
     count + 1
 }
 
-// From the node p along the word w.
-pub fn walk(label: &[u8], first: &[u16], next: &[u16], p: usize, w: &[u8]) -> Walked
-    requires { Node label.now first.now next.now p }
-    ensures { (t : Trie) → Holds t label.now first.now next.now → p < size t → result ≡ walk_from t p w.now }
+// From the node p along the word w; or none, where the walk leaves the trie.
+pub fn walk(nodes: Nodes, p: usize, w: &[u8]) -> Option<usize>
+    requires { Node nodes.label.now nodes.first.now nodes.next.now p }
+    ensures { (t : Trie) → Holds t nodes.entry.label.now nodes.entry.first.now nodes.entry.next.now → p < size t → result ≡ walk_from t p w.now }
 {
     let mut node = p;
-    let mut i = 0;
-    while i < w.len() {
-        let j = child(label, first, next, node, Input::numbered(w[i]));
-        if j == 0 {
-            return Walked::Off;
-        }
-        node = j;
-        i += 1;
+    for a in w {
+        node = child(nodes, node, Input::numbered(*a))?;
     }
-    Walked::At(node)
+    Some(node)
 }
 
-// The node under p with the label a, made if there is none.
+// The node under p with the label a, made if there is none, and how many nodes there are then; or none, where there is no room.
 pub fn step(
     label: &mut [u8],
     first: &mut [u16],
@@ -106,23 +88,22 @@ pub fn step(
     count: usize,
     p: usize,
     a: Input,
-) -> Stepped
+) -> Option<(usize, usize)>
     requires counted { Counted label.old first.old next.old count }
     requires p_lt_count { p < count }
     ensures { (t : Trie) → Holds t label.old first.old next.old → count ≡ size t → StepOf t p a.0 label.new first.new next.new result }
 {
-    let j = child(label, first, next, p, a);
-    if j != 0 {
-        return Stepped::To(j, count);
+    if let Some(j) = child(Nodes { label, first, next }, p, a) {
+        return Some((j, count));
     }
-    if count < label.len() {
-        let m = add(label, first, next, count, p, a);
-        return Stepped::To(count, m);
+    if label.len() <= count {
+        return None;
     }
-    Stepped::Full
+    let m = add(label, first, next, count, p, a);
+    Some((count, m))
 }
 
-// The word w put in from the node p.
+// The word w put in from the node p: the node of its end, and how many nodes there are then; or none, where there is no room.
 pub fn insert_at(
     label: &mut [u8],
     first: &mut [u16],
@@ -130,38 +111,26 @@ pub fn insert_at(
     count: usize,
     p: usize,
     w: &[u8],
-) -> Inserted
+) -> Option<(usize, usize)>
     requires counted { Counted label.old first.old next.old count }
     requires p_lt_count { p < count }
     ensures { (t : Trie) → Holds t label.old first.old next.old → count ≡ size t → InsertOf t p w.now label.new first.new next.new result }
 {
     let mut node = p;
     let mut m = count;
-    let mut i = 0;
-    while i < w.len() {
-        match step(label, first, next, m, node, Input::numbered(w[i])) {
-            Stepped::To(j, k) => {
-                node = j;
-                m = k;
-            }
-            Stepped::Full => {
-                return Inserted::Full;
-            }
-        }
-        i += 1;
+    for a in w {
+        let (j, k) = step(label, first, next, m, node, Input::numbered(*a))?;
+        node = j;
+        m = k;
     }
-    Inserted::Put(node, m)
+    Some((node, m))
 }
 
-// No numbers.
+// No numbers: where none was noted for a node, the array holds 0, and so no Option stands for it.
 pub fn clear_values(value: &mut [u32])
     ensures { (t : Trie) → Noted t empty value.new }
 {
-    let mut i = 0;
-    while i < value.len() {
-        value[i] = 0;
-        i += 1;
-    }
+    value.fill(0);
 }
 
 // The number v for the word of a node.
@@ -181,14 +150,14 @@ pub fn noted(value: &[u32], node: usize) -> u32
 }
 
 // The number of the word w, or 0.
-pub fn get(label: &[u8], first: &[u16], next: &[u16], value: &[u32], w: &[u8]) -> u32
-    requires node { Node label.now first.now next.now 0 }
-    requires value_len { length value.now ≡ length label.now }
-    ensures { (t : Trie) (m : Map) → Holds t label.now first.now next.now → Noted t m value.now → result ≡ value_of m w.now }
+pub fn get(nodes: Nodes, value: &[u32], w: &[u8]) -> u32
+    requires node { Node nodes.label.now nodes.first.now nodes.next.now 0 }
+    requires value_len { length value.now ≡ length nodes.label.now }
+    ensures { (t : Trie) (m : Map) → Holds t nodes.entry.label.now nodes.entry.first.now nodes.entry.next.now → Noted t m value.now → result ≡ value_of m w.now }
 {
-    match walk(label, first, next, 0, w) {
-        Walked::At(i) => value[i],
-        Walked::Off => 0,
+    match walk(nodes, 0, w) {
+        Some(i) => value[i],
+        None => 0,
     }
 }
 
@@ -196,11 +165,7 @@ pub fn get(label: &[u8], first: &[u16], next: &[u16], value: &[u32], w: &[u8]) -
 pub fn clear_marks(marks: &mut [u8])
     ensures { (t : Trie) → Noted t (marks_of []) marks.new }
 {
-    let mut i = 0;
-    while i < marks.len() {
-        marks[i] = 0;
-        i += 1;
-    }
+    marks.fill(0);
 }
 
 // The word of a node is marked.

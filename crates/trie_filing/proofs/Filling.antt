@@ -3,14 +3,13 @@ use Prim.Native.Nat.{ℕ, zero, suc, ◌+◌, ◌-◌, ◌≤◌, ◌<◌}
 use native.Mathlib.Omega.{arith}
 use mathlib.Core.Path.{◌≡◌, refl, sym, ◌∙◌, ap}
 use mathlib.Core.List.{List, [], ◌∷◌, ◌++◌, map, append_assoc, append-nil}
-use lib.ListN.{length, get_or}
+use lib.ListN.{length}
+use Rattle.std.specs.Prelude.{Option, Some, None}
 use Rattle.rules.specs.Lists.{sum}
 use Rattle.rules.specs.Words.{Word}
 use Rattle.reader.specs.Places.{word_at, after_word, words_at, WordsAt}
-use Rattle.reader.specs.Turns.{word_turn, words_end}
+use Rattle.reader.specs.Turns.{WordTurn, word_turn, words_end}
 use Rattle.walker.proofs.Words.{word-length}
-use Rattle.trie.specs.declared.Inserted.{Inserted}
-use Rattle.trie.specs.declared.Inserted.TheVariants.{Put, Full}
 use Rattle.trie.specs.Model.{Trie, root, size, add_all, holding}
 use Rattle.trie.specs.Holds.{Holds, Counted, InsertOf}
 use Rattle.trie.specs.Grow.{size_pos}
@@ -38,7 +37,7 @@ pub record Filling (all rest : List Word) (label first next : List ℕ) (nodes :
   pub holds : Holds (holding done) label first next
   pub counted : nodes ≡ size (holding done)
 
-pub filling_start : (all : List Word) (label first next : List ℕ) (nodes : ℕ) → Holds root label first next → nodes ≡ 1 → Filling all all label first next nodes
+filling_start : (all : List Word) (label first next : List ℕ) (nodes : ℕ) → Holds root label first next → nodes ≡ 1 → Filling all all label first next nodes
 unfolding add_all size
 filling_start all label first next nodes holds one = record { done = []; split = refl; holds = holds; counted = one }
 
@@ -48,34 +47,60 @@ filling_counted f =
     (record { trie = holding f.done; holds = f.holds; counted = f.counted }, omega (arith, f.counted, size_pos (holding f.done)))
 
 -- what an insertion into the arrays is, for any trie that they hold
-abbrev Inserting : List ℕ → List ℕ → List ℕ → ℕ → Word → List ℕ → List ℕ → List ℕ → Inserted → Type 0
+abbrev Inserting : List ℕ → List ℕ → List ℕ → ℕ → Word → List ℕ → List ℕ → List ℕ → Option (ℕ × ℕ) → Type 0
 Inserting label first next nodes w label' first' next' r = (t : Trie) → Holds t label first next → nodes ≡ size t → InsertOf t 0 w label' first' next' r
 
-module _ (s : List ℕ) (p k c : ℕ) (left : 0 < c) (stand : WordsAt s p k c) (all : List Word) (label first next : List ℕ) (nodes : ℕ)
-    (f : Filling all (words_at s p c) label first next nodes) (label' first' next' : List ℕ) (r : Inserted) (inserts : Inserting label first next nodes (word_at s p) label' first' next' r) where
-  now_done : all ≡ (f.done ++ (word_at s p ∷ [])) ++ words_at s (after_word s p) (c - 1)
-  now_done = f.split ∙ rw (word_turn s p k c left stand).words (sym (append_assoc f.done (word_at s p ∷ []) (words_at s (after_word s p) (c - 1))))
+-- The loop over the c words from p on, at the word number i.
+module _ (s : List ℕ) (p k c : ℕ) where
+  abbrev all : List Word
+  all = words_at s p c
 
-  pub filling_next : (node more n : ℕ) → n ≡ get_or s p 0 → r ≡ Put node more → Filling all (words_at s (p + 1 + n) (c - 1)) label' first' next' more
-  filling_next node more n place is =
-      let (at, counted, holds) = rw is at (inserts (holding f.done) f.holds f.counted) in
-      record {
-        done = f.done ++ (word_at s p ∷ []);
-        split = rw place now_done;
-        holds = rw (holding_snoc f.done (word_at s p)) holds;
-        counted = rw (holding_snoc f.done (word_at s p)) counted;
-      }
+  abbrev pub FillingAt : ℕ → ℕ → List ℕ → List ℕ → List ℕ → ℕ → Type 0
+  FillingAt i word label first next nodes = WordsAt s word k (c - i) × Filling all (words_at s word (c - i)) label first next nodes
 
-  -- there is room for all
-  pub filling_full : {A : Type 0} → suc (sum (map (λ (w : Word). length w) all)) ≤ length label' → r ≡ Full → A
-  filling_full room is =
-      let over = rw is at (inserts (holding f.done) f.holds f.counted) in
-      let grows = holding_grows (f.done ++ (word_at s p ∷ [])) (words_at s (after_word s p) (c - 1)) in
-      let whole : size (holding ((f.done ++ (word_at s p ∷ [])) ++ words_at s (after_word s p) (c - 1))) ≡ size (holding all) = ap (λ (ws : List Word). size (holding ws)) (sym now_done) in
-      let one = ap size (holding_snoc f.done (word_at s p)) in
-      absurd (omega (arith, holding-size all))
+  pub filling_begin : (label first next : List ℕ) (nodes : ℕ) → WordsAt s p k c → Holds root label first next → nodes ≡ 1 → FillingAt 0 p label first next nodes
+  filling_begin label first next nodes stand holds one =
+      let whole : c - 0 ≡ c = omega arith in
+      (rw whole stand, rw whole (filling_start all label first next nodes holds one))
 
-pub filling_end : (s : List ℕ) (p c : ℕ) (all : List Word) (label first next : List ℕ) (nodes : ℕ) → c ≤ 0 → Filling all (words_at s p c) label first next nodes → Holds (holding all) label first next
-filling_end s p c all label first next nodes none f =
-    let is : all ≡ f.done = f.split ∙ rw (words_end s p c none) (append-nil f.done) in
-    rw is f.holds
+  module _ (i word : ℕ) (label first next : List ℕ) (nodes : ℕ) (x : FillingAt i word label first next nodes) where
+    -- all words are in
+    pub filling_end : c ≤ i → Holds (holding all) label first next
+    filling_end over =
+        let is : all ≡ x.1.done = x.1.split ∙ rw (words_end s word (c - i) (omega arith)) (append-nil x.1.done) in
+        rw is x.1.holds
+
+    module _ (some : i < c) where
+      turn : WordTurn s word k (c - i)
+      turn = word_turn s word k (c - i) (omega arith) x.0
+
+      -- the word at hand is inside
+      pub filling_inside : after_word s word ≤ length s
+      filling_inside = turn.here.inside
+
+      now_done : all ≡ (x.1.done ++ (word_at s word ∷ [])) ++ words_at s (after_word s word) (c - i - 1)
+      now_done = x.1.split ∙ rw turn.words (sym (append_assoc x.1.done (word_at s word ∷ []) (words_at s (after_word s word) (c - i - 1))))
+
+      module _ (label' first' next' : List ℕ) (r : Option (ℕ × ℕ)) (inserts : Inserting label first next nodes (word_at s word) label' first' next' r) where
+        pub filling_next : (node more : ℕ) → r ≡ Some (node, more) → FillingAt (i + 1) (after_word s word) label' first' next' more
+        filling_next node more is =
+            let (at, counted, holds) = rw is at (inserts (holding x.1.done) x.1.holds x.1.counted) in
+            let less : c - (i + 1) ≡ c - i - 1 = omega arith in (
+              rw less turn.rest,
+              record {
+                done = x.1.done ++ (word_at s word ∷ []);
+                split = rw less now_done;
+                holds = rw (holding_snoc x.1.done (word_at s word)) holds;
+                counted = rw (holding_snoc x.1.done (word_at s word)) counted;
+              },
+            )
+
+        -- there is room for all
+        pub filling_full : {A : Type 0} → suc (sum (map (λ (w : Word). length w) all)) ≤ length label' → r ≡ None → A
+        filling_full room is =
+            let over = rw is at (inserts (holding x.1.done) x.1.holds x.1.counted) in
+            let others = words_at s (after_word s word) (c - i - 1) in
+            let grows = holding_grows (x.1.done ++ (word_at s word ∷ [])) others in
+            let whole : size (holding ((x.1.done ++ (word_at s word ∷ [])) ++ others)) ≡ size (holding all) = ap (λ (ws : List Word). size (holding ws)) (sym now_done) in
+            let one = ap size (holding_snoc x.1.done (word_at s word)) in
+            absurd (omega (arith, holding-size all))

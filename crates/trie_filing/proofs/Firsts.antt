@@ -10,6 +10,7 @@ use mathlib.Core.List.{List, [], ◌∷◌, ◌++◌, append_assoc, append-nil}
 use mathlib.Core.Bool.{Bool, true, false, not, ◌||◌}
 use lib.ListN.{length, get_or, set, length-append, get_or-append}
 use lib.Seq.{get_or-set_same, get_or-set_other, take_at, get_or_at}
+use Rattle.std.specs.Prelude.{Option, Some, None}
 use Rattle.rules.specs.Lists.{◌∈◌, placed, placed_from, keep, first}
 use Rattle.rules.specs.Words.{Word, same, is_in}
 use Rattle.reader.specs.Places.{word_at, after_word, words_at, word_place, WordsAt}
@@ -17,12 +18,9 @@ use Rattle.reader.specs.Turns.{word_turn, words_end}
 use Rattle.reader.proofs.Held.{words_inside}
 use Rattle.theory.specs.Lists.{outcome, clash}
 use Rattle.theory.specs.Words.{is_in_in}
-use Rattle.trie.specs.declared.Walked.{Walked}
-use Rattle.trie.specs.declared.Walked.TheVariants.{At, Off}
 use Rattle.trie.specs.Model.{Trie, Proper, size, word_of, walk_from, holding}
 use Rattle.trie.specs.Holds.{Holds}
-use Rattle.trie.specs.Grow.{size_pos}
-use Rattle.trie.specs.Words.{Has, word_root, walk_word, off_at, has_reaches, holding_proper, reaches, reaches_has}
+use Rattle.trie.specs.Words.{Has, root_walk, off_at, has_reaches, holding_proper, reaches, reaches_has}
 use Rattle.trie.specs.Values.{marks_of, Noted}
 use Rattle.trie_filing.specs.Distinct.{is_first, firsts, FirstPlaces, StoredOf}
 
@@ -175,25 +173,20 @@ module _ (s : List ℕ) (p : ℕ) (all rest : List Word) (w : Word) (t : Trie) (
           ]
 
 -- The word at hand, walked in the trie.
-module _ (t : Trie) (w : Word) (r : Walked) (proper : Proper t) (walked : r ≡ walk_from t 0 w) where
-  walked_word : (node : ℕ) → r ≡ At node → (node < size t) × (word_of t node ≡ w)
-  walked_word node is =
-      let (less, word) = walk_word proper 0 node w (size_pos t) (sym walked ∙ is) in
-      (less, word ∙ rw (word_root t))
-
+module _ (t : Trie) (w : Word) (r : Option ℕ) (proper : Proper t) (walked : r ≡ walk_from t 0 w) where
   -- its mark was asked, and set
-  pub seen_word : (node : ℕ) → r ≡ At node → (ws : List Word) (seen : Bool) (marks : List ℕ) → (node < size t → seen ≡ is_in (word_of t node) ws) → (node < size t → Noted t (marks_of (word_of t node ∷ ws)) marks)
+  pub seen_word : (node : ℕ) → r ≡ Some node → (ws : List Word) (seen : Bool) (marks : List ℕ) → (node < size t → seen ≡ is_in (word_of t node) ws) → (node < size t → Noted t (marks_of (word_of t node ∷ ws)) marks)
       → (seen ≡ is_in w ws) × Noted t (marks_of (w ∷ ws)) marks
   seen_word node is ws seen marks asked set' =
-      let (less, word) = walked_word node is in
+      let (less, word) = root_walk proper w r node walked is in
       (asked less ∙ ap (λ v. is_in v ws) word, rw word at (set' less))
 
   -- a word that the trie has is not off it
-  pub seen_off : {A : Type 0} → Has t w → r ≡ Off → A
+  pub seen_off : {A : Type 0} → Has t w → r ≡ None → A
   seen_off has off = let (j, f) = has_reaches proper w has in off_at r j off (walked ∙ f)
 
-  pub seen_below : (label first next marks : List ℕ) (node : ℕ) → Holds t label first next → length marks ≡ length label → r ≡ At node → node < length marks
-  seen_below label first next marks node holds long is = omega (arith, (walked_word node is).0, holds.room)
+  pub seen_below : (label first next marks : List ℕ) (node : ℕ) → Holds t label first next → length marks ≡ length label → r ≡ Some node → node < length marks
+  seen_below label first next marks node holds long is = omega (arith, (root_walk proper w r node walked is).0, holds.room)
 
 -- The loop over the c words from p on, at the word number i.
 module _ (s : List ℕ) (p k c : ℕ) where
@@ -221,16 +214,16 @@ module _ (s : List ℕ) (p k c : ℕ) where
         let few = x.1.few in
         (omega arith, omega arith, omega arith, omega arith)
 
-    pub sifting_next : i < c → c ≤ length numbers → c ≤ length places → (seen : Bool) (numbers' places' marks' : List ℕ) (r len : ℕ)
+    pub sifting_next : i < c → c ≤ length numbers → c ≤ length places → (seen : Bool) (numbers' places' marks' : List ℕ) (r : ℕ)
         → ((ws : List Word) → Has (holding all) (word_at s word) → Noted (holding all) (marks_of ws) marks → (seen ≡ is_in (word_at s word) ws) × Noted (holding all) (marks_of (word_at s word ∷ ws)) marks')
-        → StoredOf seen n i word numbers places numbers' places' r → len ≡ get_or s word 0 → SiftingAt (i + 1) (word + 1 + len) r numbers' places' marks'
-    sifting_next some long long' seen numbers' places' marks' r len told stored place =
+        → StoredOf seen n i word numbers places numbers' places' r → SiftingAt (i + 1) (after_word s word) r numbers' places' marks'
+    sifting_next some long long' seen numbers' places' marks' r told stored =
         let turn = word_turn s word k (c - i) (omega arith) x.0 in
         let less : c - (i + 1) ≡ c - i - 1 = omega arith in
         let here : Sifting s p all (word_at s word ∷ words_at s (after_word s word) (c - i - 1)) (holding all) i word n numbers places marks = rw turn.words at x.1 in
         let few = x.1.few in
         let (is, noted) = told here.seen (sifted_has s p all (words_at s (after_word s word) (c - i - 1)) (word_at s word) (holding all) i word n numbers places marks here refl) here.noted in
-        (rw (less, place) turn.rest, rw (less, place) (sifted s p all (words_at s (after_word s word) (c - i - 1)) (word_at s word) (holding all) i word n numbers places marks here seen numbers' places' marks' r (omega arith) (omega arith) is noted stored))
+        (rw less turn.rest, rw less (sifted s p all (words_at s (after_word s word) (c - i - 1)) (word_at s word) (holding all) i word n numbers places marks here seen numbers' places' marks' r (omega arith) (omega arith) is noted stored))
 
     -- all words are passed
     pub sifting_end : c ≤ i → FirstPlaces s p c numbers places n

@@ -6,10 +6,11 @@ ghost use Rattle.walker.specs.Walks.{Whole};
 ghost use Rattle.trie.specs.Model.{Trie, size, holding};
 ghost use Rattle.trie.specs.Holds.{Holds, Counted, InsertOf};
 
-use trie::{Inserted, insert_at, start};
-use walker::word_length;
+use trie::{insert_at, start};
+use walker::{word_end, word_inputs};
 
-// Puts the word at a place into the trie, behind the word of a node.
+// Puts the word at a place into the trie, behind the word of a node: the node of its end, and how many nodes there are then; or none,
+// where there is no room.
 pub fn put_word(
     bytes: &[u8],
     word: usize,
@@ -18,13 +19,12 @@ pub fn put_word(
     next: &mut [u16],
     nodes: usize,
     node: usize,
-) -> Inserted
+) -> Option<(usize, usize)>
     requires whole { Whole bytes.now word }
     requires counted { Counted label.old first.old next.old nodes × (node < nodes) }
     ensures { (t : Trie) → Holds t label.old first.old next.old → nodes ≡ size t → InsertOf t node (word_at bytes.now word) label.new first.new next.new result }
 {
-    let end = word + 1 + word_length(bytes, word);
-    insert_at(label, first, next, nodes, node, &bytes[word + 1..end])
+    insert_at(label, first, next, nodes, node, word_inputs(bytes, word))
 }
 
 // Puts the words from a place on into an empty trie. Its arrays have a node for each input of them, so there is room.
@@ -43,18 +43,12 @@ pub fn put_words(
     ensures { Holds (holding (words_at bytes.now place count)) label.new first.new next.new }
 {
     let mut nodes = start(label, first, next);
-    let mut left = count;
     let mut word = place;
-    while 0 < left {
-        match put_word(bytes, word, label, first, next, nodes, 0) {
-            Inserted::Put(_, more) => {
-                nodes = more;
-            }
-            Inserted::Full => {
-                return;
-            }
-        }
-        word = word + 1 + word_length(bytes, word);
-        left -= 1;
+    for _ in 0..count {
+        let Some((_, more)) = put_word(bytes, word, label, first, next, nodes, 0) else {
+            return;
+        };
+        nodes = more;
+        word = word_end(bytes, word);
     }
 }

@@ -5,22 +5,14 @@ ghost use Rattle.walker.specs.Walks.{Whole};
 ghost use Rattle.trie.specs.Model.{Trie, size, walk_from};
 ghost use Rattle.trie.specs.Holds.{Holds, Node};
 
-use trie::{Walked, walk};
-use walker::word_length;
+use trie::{Nodes, walk};
+use walker::word_inputs;
 
-// From a node along the word at a place.
-pub fn walk_word(
-    bytes: &[u8],
-    word: usize,
-    label: &[u8],
-    first: &[u16],
-    next: &[u16],
-    node: usize,
-) -> Walked
+// From a node along the word at a place; or none, where the walk leaves the trie.
+pub fn walk_word(bytes: &[u8], word: usize, nodes: Nodes, node: usize) -> Option<usize>
     requires whole { Whole bytes.now word }
-    requires node { Node label.now first.now next.now node }
-    ensures { (t : Trie) → Holds t label.now first.now next.now → node < size t → result ≡ walk_from t node (word_at bytes.now word) }
+    requires node { Node nodes.label.now nodes.first.now nodes.next.now node }
+    ensures { (t : Trie) → Holds t nodes.entry.label.now nodes.entry.first.now nodes.entry.next.now → node < size t → result ≡ walk_from t node (word_at bytes.now word) }
 {
-    let end = word + 1 + word_length(bytes, word);
-    walk(label, first, next, node, &bytes[word + 1..end])
+    walk(nodes, node, word_inputs(bytes, word))
 }

@@ -6,6 +6,7 @@ use mathlib.Core.List.{List, [], ◌∷◌, ◌++◌, append_assoc, append-nil}
 use native.Mathlib.Omega.{arith}
 use native.Mathlib.Nat.{sub-zero}
 use native.Mathlib.Numerals.{add-one}
+use Rattle.std.specs.Prelude.{Option, Some, None}
 use Rattle.rules.specs.Words.{Word}
 use lib.Dec.{eqb}
 use lib.ListN.{length, set, take, drop, length-set, length-append}
@@ -13,16 +14,15 @@ use lib.Seq.{take-take, take-set-le, paste, take-paste, drop-paste, drop-set-lt,
 use borrow.Author.Tests.{eq-eqb, ne_eqb}
 use Rattle.trie.specs.Model.{Trie, size, first_of, child_in, word_of}
 use Rattle.trie.specs.Grow.{child_lt}
+use Rattle.trie.specs.Holds.{ChildOf}
 use Rattle.trie.specs.Words.{child_gt, child_word}
 use Rattle.trie_lister.specs.Visits.{bytes_append, bytes_one, bytes_none, gather, leaves, bytes_of, WroteOf, Visiting}
-use Rattle.trie_lister.specs.declared.Visited.{Visited}
-use Rattle.trie_lister.specs.declared.Visited.TheVariants.{Done, Full}
 
 module _ (path out : List ℕ) (n at : ℕ) (fits : n ≤ length path) where
-  pub emit_full : length out - at ≤ n → at ≤ length out → WroteOf (n ∷ take n path) out at out Full
+  pub emit_full : length out - at ≤ n → at ≤ length out → WroteOf (n ∷ take n path) out at out None
   emit_full h less = omega (arith, length-take-le n path fits)
 
-  pub emit_done : (out' : List ℕ) → n < length out - at → length out' ≡ length out → out' ≡ paste (set out at n) (at + 1) path n → WroteOf (n ∷ take n path) out at out' (Done (at + 1 + n))
+  pub emit_done : (out' : List ℕ) → n < length out - at → length out' ≡ length out → out' ≡ paste (set out at n) (at + 1) path n → WroteOf (n ∷ take n path) out at out' (Some (at + 1 + n))
   emit_done out' h long e =
       let less : at < length out = omega arith in (
         omega (arith, length-take-le n path fits),
@@ -62,7 +62,7 @@ module _ (g : ℕ → List Word) (a k : ℕ) where
   unfolding gather
   gather_end more = let e : k - a ≡ 0 = omega arith in rw e
 
-pub visit_leaf : (t : Trie) (k d i depth : ℕ) (path out out' : List ℕ) (at : ℕ) (r : Visited) → size t ≤ i + d → i < size t → first_of t i ≡ 0 → depth ≤ length path
+pub visit_leaf : (t : Trie) (k d i depth : ℕ) (path out out' : List ℕ) (at : ℕ) (r : Option ℕ) → size t ≤ i + d → i < size t → first_of t i ≡ 0 → depth ≤ length path
     → WroteOf (depth ∷ take depth path) out at out' r → WroteOf (bytes_of (leaves t k d i (take depth path))) out at out' r
 visit_leaf t k d i depth path out out' at r deep there z fits h =
     rw (leaves_leaf t k d i (take depth path) deep there z, bytes_one (take depth path), length-take-le depth path fits) h
@@ -82,29 +82,27 @@ module _ (t : Trie) (k d i : ℕ) (u out₀ : List ℕ) (at : ℕ) where
   written_start deep there n = (rw (leaves_inner t k d i u deep there n), refl)
 
   module _ (a pos : ℕ) (out : List ℕ) (w : Written t k d i u out₀ at a pos out) where
-    pub written_skip : (j : ℕ) → a < k → j ≡ child_in t i a → j ≡ 0 → Written t k d i u out₀ at (a + 1) pos out
-    written_skip j less e z =
-        let g : turn t k d i u a ≡ [] = rw (← e, eq-eqb j 0 z) in
+    pub written_skip : a < k → ChildOf t i a None → Written t k d i u out₀ at (a + 1) pos out
+    written_skip less z =
+        let g : turn t k d i u a ≡ [] = rw (eq-eqb (child_in t i a) 0 z) in
         (sym (rw (gather_next (turn t k d i u) a k less, g)) ∙ w.0, w.1)
 
-    written_turn : (j : ℕ) → a < k → j ≡ child_in t i a → (j ≡ 0 → ⊥) → take pos out ++ (bytes_of (leaves t k (d - 1) j (u ++ (a ∷ []))) ++ bytes_of (gather (turn t k d i u) (a + 1) (k - (a + 1)))) ≡ take at out₀ ++ bytes_of (leaves t k d i u)
-    written_turn j less e n =
-        let g : turn t k d i u a ≡ leaves t k (d - 1) j (u ++ (a ∷ [])) = rw (← e, ne_eqb j 0 n) in
+    written_turn : (j : ℕ) → a < k → ChildOf t i a (Some j) → take pos out ++ (bytes_of (leaves t k (d - 1) j (u ++ (a ∷ []))) ++ bytes_of (gather (turn t k d i u) (a + 1) (k - (a + 1)))) ≡ take at out₀ ++ bytes_of (leaves t k d i u)
+    written_turn j less (e, pos) =
+        let g : turn t k d i u a ≡ leaves t k (d - 1) j (u ++ (a ∷ [])) = rw (← e, ne_eqb j 0 (λ z. omega arith)) in
         sym (rw (gather_next (turn t k d i u) a k less, bytes_append, g)) ∙ w.0
 
-    pub written_more : (j p : ℕ) (out' : List ℕ) (r : Visited) → a < k → j ≡ child_in t i a → (j ≡ 0 → ⊥)
-        → WroteOf (bytes_of (leaves t k (d - 1) j (u ++ (a ∷ [])))) out pos out' r → r ≡ Done p → Written t k d i u out₀ at (a + 1) p out'
-    written_more j p out' r less e n h q =
-        let done : WroteOf (bytes_of (leaves t k (d - 1) j (u ++ (a ∷ [])))) out pos out' (Done p) = rw q at h in
-        (rw (done.2, append_assoc) (written_turn j less e n), done.3 ∙ drop_later out out₀ pos p (omega (arith, done.0)) w.1)
+    pub written_more : (j p : ℕ) (out' : List ℕ) → a < k → ChildOf t i a (Some j)
+        → WroteOf (bytes_of (leaves t k (d - 1) j (u ++ (a ∷ [])))) out pos out' (Some p) → Written t k d i u out₀ at (a + 1) p out'
+    written_more j p out' less e done =
+        (rw (done.2, append_assoc) (written_turn j less e), done.3 ∙ drop_later out out₀ pos p (omega (arith, done.0)) w.1)
 
-    pub written_full : (j : ℕ) (out' : List ℕ) (r : Visited) → a < k → j ≡ child_in t i a → (j ≡ 0 → ⊥) → pos ≤ length out → at ≤ length out₀ → length out ≡ length out₀
-        → WroteOf (bytes_of (leaves t k (d - 1) j (u ++ (a ∷ [])))) out pos out' r → r ≡ Full → length out₀ < at + length (bytes_of (leaves t k d i u))
-    written_full j out' r less e n fits fits₀ long h q =
-        let full : length out < pos + length (bytes_of (leaves t k (d - 1) j (u ++ (a ∷ [])))) = rw q at h in
-        omega (arith, simp length-append at (ap length (written_turn j less e n)), length-take-le pos out fits, length-take-le at out₀ fits₀)
+    pub written_full : (j : ℕ) (out' : List ℕ) → a < k → ChildOf t i a (Some j) → pos ≤ length out → at ≤ length out₀ → length out ≡ length out₀
+        → WroteOf (bytes_of (leaves t k (d - 1) j (u ++ (a ∷ [])))) out pos out' None → WroteOf (bytes_of (leaves t k d i u)) out₀ at out' None
+    written_full j out' less e fits fits₀ long full =
+        omega (arith, simp length-append at (ap length (written_turn j less e)), length-take-le pos out fits, length-take-le at out₀ fits₀)
 
-    pub written_end : k ≤ a → pos ≤ length out → at ≤ length out₀ → WroteOf (bytes_of (leaves t k d i u)) out₀ at out (Done pos)
+    pub written_end : k ≤ a → pos ≤ length out → at ≤ length out₀ → WroteOf (bytes_of (leaves t k d i u)) out₀ at out (Some pos)
     written_end more fits fits₀ =
         let all : take pos out ≡ take at out₀ ++ bytes_of (leaves t k d i u) =
         sym (append-nil (take pos out)) ∙ sym (rw (gather_end (turn t k d i u) a k more, bytes_none)) ∙ w.0
@@ -126,18 +124,21 @@ module _ (l f n : List ℕ) (node depth room : ℕ) (v : Visiting l f n node dep
   pub visiting_level : depth ≤ room
   visiting_level = omega (arith, v.level, v.deep node v.below)
 
-  module _ (a j : ℕ) (e : j ≡ child_in v.trie node a) (o : j ≡ 0 → ⊥) where
+  module _ (a j : ℕ) (here : ChildOf v.trie node a (Some j)) where
+    named : child_in v.trie node a ≡ 0 → ⊥
+    named z = omega (arith, here.0, here.1)
+
     child_level : length (word_of v.trie j) ≡ depth + 1
     child_level =
-        let w = child_word v.holds.proper node a (λ z. o (e ∙ z)) in
-        ap (λ (i : ℕ). length (word_of v.trie i)) e ∙ ap length w ∙ length-append (word_of v.trie node) (a ∷ []) ∙ rw v.level
+        let w = child_word v.holds.proper node a named in
+        ap (λ (i : ℕ). length (word_of v.trie i)) here.0 ∙ ap length w ∙ length-append (word_of v.trie node) (a ∷ []) ∙ rw v.level
 
     pub visiting_child : (room' : ℕ) → room' ≡ room → Visiting l f n j (depth + 1) room'
     visiting_child room' same =
         record {
           trie = v.trie;
           holds = v.holds;
-          below = rw e (child_lt v.trie node a);
+          below = rw here.0 (child_lt v.trie node a);
           level = child_level;
           deep = λ i less. rw same (v.deep i less);
         }
@@ -147,4 +148,4 @@ module _ (l f n : List ℕ) (node depth room : ℕ) (v : Visiting l f n node dep
 
     pub visiting_down : length l - j < length l - node
     visiting_down =
-        omega (arith, rw (← e) at (child_gt v.holds.proper node a (λ z. o (e ∙ z))), (visiting_child room refl).below, v.holds.room)
+        omega (arith, rw (← here.0) at (child_gt v.holds.proper node a named), (visiting_child room refl).below, v.holds.room)

@@ -1,5 +1,5 @@
 -- The words that `maximal` lists: exactly the maximal ones, in order, each once.
-use Rattle.std.specs.Prelude.{ℕ, zero, suc, ◌+◌, ◌≤◌, ◌<◌, ◌≡◌, cond, ◌⊎◌, ◌↔◌, eqb}
+use Rattle.std.specs.Prelude.{ℕ, zero, suc, ◌+◌, ◌≤◌, ◌<◌, ◌≡◌, cond, ◌⊎◌, ◌↔◌, eqb, Some}
 use Rattle.std.proofs.Math.Path.{refl}
 use Rattle.std.proofs.Common.{sym, ap, ◌∙◌, inl, inr, arith, eq-eqb, ne_eqb, lt-ltb, le-ltb}
 use mathlib.Core.List.Memᴰ
@@ -15,7 +15,6 @@ use Rattle.trie.specs.Model.{Trie, root, grow, size, first_of, child_in, walk_fr
 use Rattle.trie.specs.Grow.{size_pos, child_lt, child_other, by_step}
 use Rattle.trie.specs.Words.{Has, Reaches, Started, walk_some, walk_none, off_at, walk_on, child_gt, has_reaches, reaches_has, reaches, holding_proper}
 use Rattle.trie_lister.specs.Visits.{gather, leaves, maximal}
-use Rattle.trie.specs.declared.Walked.TheVariants.{At}
 
 -- the trie has the word, and none that goes on behind it
 abbrev pub Maximal : Trie → Word → Type 0
@@ -89,7 +88,7 @@ of_branch t k d i u a x m =
     ]
 
 -- each word that is listed is that of a walk to a leaf
-of_leaves : (t : Trie) (k d i : ℕ) (u x : Word) → x ∈ leaves t k d i u → (v : Word) × (j : ℕ) × (x ≡ u ++ v) × (walk_from t i v ≡ At j) × (first_of t j ≡ 0)
+of_leaves : (t : Trie) (k d i : ℕ) (u x : Word) → x ∈ leaves t k d i u → (v : Word) × (j : ℕ) × (x ≡ u ++ v) × (walk_from t i v ≡ Some j) × (first_of t j ≡ 0)
 unfolding leaves walk_from
 of_leaves t k zero i u x m = absurd (Memᴰ.not-nil m)
 of_leaves t k (suc d) i u x m =
@@ -105,7 +104,7 @@ of_leaves t k (suc d) i u x m =
     ]
 
 -- each walk to a leaf is listed
-in_leaves : {t : Trie} → Proper t → (k d i j : ℕ) → Labels k t → (u v : Word) → i < size t → size t ≤ i + d → walk_from t i v ≡ At j → first_of t j ≡ 0 → (u ++ v) ∈ leaves t k d i u
+in_leaves : {t : Trie} → Proper t → (k d i j : ℕ) → Labels k t → (u v : Word) → i < size t → size t ≤ i + d → walk_from t i v ≡ Some j → first_of t j ≡ 0 → (u ++ v) ∈ leaves t k d i u
 unfolding leaves walk_from
 in_leaves v k zero i j l u w less deep e z = absurd (omega arith)
 in_leaves {t} v k (suc d) i j l u [] less deep e z =
@@ -174,7 +173,7 @@ pub maximal_rising : (t : Trie) (k : ℕ) → Rising ByInputs (maximal t k)
 maximal_rising t k = leaves_rising t k (size t) 0 []
 
 -- a word is maximal exactly if the walk along it ends at a leaf
-leaf_maximal : {t : Trie} → Proper t → (x : Word) (j : ℕ) → walk_from t 0 x ≡ At j → first_of t j ≡ 0 → Maximal t x
+leaf_maximal : {t : Trie} → Proper t → (x : Word) (j : ℕ) → walk_from t 0 x ≡ Some j → first_of t j ≡ 0 → Maximal t x
 leaf_maximal {t} v x j e z = (
   reaches_has v x (j, e),
   λ y h. go y (has_reaches v (x ++ y) h),
@@ -185,7 +184,7 @@ leaf_maximal {t} v x j e z = (
     go (a ∷ y) (i, r) =
         off_at _ i (walk_none t j a y (leaf_child t j a z)) (sym (walk_on t 0 j x (a ∷ y) e) ∙ r)
 
-maximal_leaf : {t : Trie} → Proper t → (x : Word) → Maximal t x → (j : ℕ) × (walk_from t 0 x ≡ At j) × (first_of t j ≡ 0)
+maximal_leaf : {t : Trie} → Proper t → (x : Word) → Maximal t x → (j : ℕ) × (walk_from t 0 x ≡ Some j) × (first_of t j ≡ 0)
 maximal_leaf {t} v x (h, last) =
     let (j, e) = has_reaches v x h in (
       j,
@@ -194,14 +193,14 @@ maximal_leaf {t} v x (h, last) =
           elim (ℕ_discrete (child_in t j a) 0) [
             | yes z ↦ z
             | no n ↦
-                let w : walk_from t 0 (x ++ (a ∷ [])) ≡ At (child_in t j a) = walk_on t 0 j x (a ∷ []) e ∙ walk_some t j a [] n ∙ walk_nil t (child_in t j a) in
+                let w : walk_from t 0 (x ++ (a ∷ [])) ≡ Some (child_in t j a) = walk_on t 0 j x (a ∷ []) e ∙ walk_some t j a [] n ∙ walk_nil t (child_in t j a) in
                 let none : a ∷ [] ≡ [] = last (a ∷ []) (reaches_has v (x ++ (a ∷ [])) (child_in t j a, w)) in
                 let bad : ◌≡◌ {A = ℕ} 0 1 = cc in
                 absurd (omega arith)
           ]),
     )
   where
-    walk_nil : (t : Trie) (i : ℕ) → walk_from t i [] ≡ At i
+    walk_nil : (t : Trie) (i : ℕ) → walk_from t i [] ≡ Some i
     walk_nil t i = unfold walk_from in refl
 
 pub maximal_is : {t : Trie} → Proper t → (k : ℕ) → Labels k t → (x : Word) → (x ∈ maximal t k) ↔ Maximal t x

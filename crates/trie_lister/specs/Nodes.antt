@@ -1,5 +1,5 @@
 -- A trie has no more nodes than its maximal words have bytes: where there is no room for the nodes, there is none for the words.
-use Rattle.std.specs.Prelude.{ℕ, zero, suc, ◌+◌, ◌≤◌, ◌<◌, ◌≡◌, refl, List, [], ◌∷◌, ◌++◌, Bool, false, cond, not, ◌⊎◌, eqb}
+use Rattle.std.specs.Prelude.{ℕ, zero, suc, ◌+◌, ◌≤◌, ◌<◌, ◌≡◌, refl, List, [], ◌∷◌, ◌++◌, Bool, false, cond, not, ◌⊎◌, eqb, Some}
 use Rattle.std.proofs.Common.{sym, ◌∙◌, inl, inr, eq-eqb, ne_eqb}
 use Rattle.std.proofs.Math.Path.{ap}
 use mathlib.Core.List.Memᴰ
@@ -14,7 +14,6 @@ use Rattle.trie.specs.Grow.{size_pos, child_lt}
 use Rattle.trie.specs.Words.{walk_some, walk_none, off_at, walk_at, child_gt}
 use Rattle.trie_lister.specs.Visits.{gather, leaves, maximal, bytes_of, bytes_append, bytes_one}
 use Rattle.trie_lister.specs.Maximal.{Labels, leaf_child, child_label}
-use Rattle.trie.specs.declared.Walked.TheVariants.{At}
 
 -- A list that has every number below n has at least n elements.
 
@@ -62,7 +61,7 @@ in_joined h a (suc n) b x low high m =
       | no o ↦ Memᴰ.append_right (h a) (in_joined h (suc a) n b x (omega arith) (omega arith) m)
     ]
 
-in_nodes : {t : Trie} → Proper t → (k d i j : ℕ) → Labels k t → (w : Word) → i < size t → size t ≤ i + d → walk_from t i w ≡ At j → j ∈ nodes t k d i
+in_nodes : {t : Trie} → Proper t → (k d i j : ℕ) → Labels k t → (w : Word) → i < size t → size t ≤ i + d → walk_from t i w ≡ Some j → j ∈ nodes t k d i
 unfolding nodes walk_from
 in_nodes v k zero i j l w less deep e = absurd (omega arith)
 in_nodes {t} v k (suc d) i j l [] less deep e =

@@ -1,15 +1,11 @@
 -- The maximal words of a trie, in the order of their inputs.
-use Rattle.std.specs.Prelude.{ℕ, zero, suc, ◌+◌, ◌≤◌, ◌<◌, ◌≡◌, refl, cond, eqb, length, take, drop}
+use Rattle.std.specs.Prelude.{ℕ, zero, suc, ◌+◌, ◌≤◌, ◌<◌, ◌≡◌, refl, cond, eqb, length, take, drop, Option, Some, None}
 use Rattle.std.proofs.Common.{sym, ◌∙◌, take-append-drop}
 use mathlib.Core.List.{List, [], ◌∷◌, ◌++◌, append_assoc, append-nil, flat_map}
 use Rattle.rules.specs.Words.{Word}
 use Rattle.rules.specs.Files.{word_bytes}
 use Rattle.trie.specs.Model.{Trie, size, first_of, child_in, word_of}
 use Rattle.trie.specs.Holds.{Holds}
-use Rattle.trie_lister.specs.declared.Measured.{Measured}
-use Rattle.trie_lister.specs.declared.Measured.TheVariants.{Fits, Over}
-use Rattle.trie_lister.specs.declared.Visited.{Visited}
-use Rattle.trie_lister.specs.declared.Visited.TheVariants.{Done, Full}
 
 -- g a, g (a + 1), .. : n of them, joined
 unfoldable pub gather : (ℕ → List Word) → ℕ → ℕ → List Word
@@ -32,15 +28,15 @@ abbrev pub bytes_of : List Word → List ℕ
 bytes_of ws = flat_map word_bytes ws
 
 -- what writing the bytes at a place answers: the place behind them, and the bytes before and behind stay; or no room for them
-abbrev pub WroteOf : List ℕ → List ℕ → ℕ → List ℕ → Visited → Type 0
-WroteOf bytes out at out' (Done p) = (p ≡ at + length bytes) × (p ≤ length out') × (take p out' ≡ take at out ++ bytes) × (drop p out' ≡ drop p out)
-WroteOf bytes out at out' Full = length out < at + length bytes
+abbrev pub WroteOf : List ℕ → List ℕ → ℕ → List ℕ → Option ℕ → Type 0
+WroteOf bytes out at out' (Some p) = (p ≡ at + length bytes) × (p ≤ length out') × (take p out' ≡ take at out ++ bytes) × (drop p out' ≡ drop p out)
+WroteOf bytes out at out' None = length out < at + length bytes
 
 -- what measuring words answers, where `words` before them end at a place: how many there are then and where they end, if no
 -- farther than the room
-abbrev pub MeasureOf : List Word → ℕ → ℕ → ℕ → Measured → Type 0
-MeasureOf ws words at room (Fits n p) = (n ≡ words + length ws) × (p ≡ at + length (bytes_of ws)) × (p ≤ room) × (n ≤ p)
-MeasureOf ws words at room Over = room < at + length (bytes_of ws)
+abbrev pub MeasureOf : List Word → ℕ → ℕ → ℕ → Option (ℕ × ℕ) → Type 0
+MeasureOf ws words at room (Some (n, p)) = (n ≡ words + length ws) × (p ≡ at + length (bytes_of ws)) × (p ≤ room) × (n ≤ p)
+MeasureOf ws words at room None = room < at + length (bytes_of ws)
 
 -- the arrays hold a trie that has the node, whose word is `depth` long, and no word is longer than the path
 pub record Visiting (label first next : List ℕ) (node depth room : ℕ) : Type 0 where
@@ -70,6 +66,6 @@ unfolding flat_map word_bytes
 bytes_none = refl
 
 -- an output after words were written
-pub wrote_whole : (bytes out : List ℕ) (at : ℕ) (out' : List ℕ) (p : ℕ) → WroteOf bytes out at out' (Done p) → out' ≡ take at out ++ (bytes ++ drop p out)
+pub wrote_whole : (bytes out : List ℕ) (at : ℕ) (out' : List ℕ) (p : ℕ) → WroteOf bytes out at out' (Some p) → out' ≡ take at out ++ (bytes ++ drop p out)
 wrote_whole bytes out at out' p wrote =
     sym (take-append-drop p out') ∙ rw (wrote.2, wrote.3) (append_assoc (take at out) bytes (drop p out))

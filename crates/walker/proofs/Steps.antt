@@ -1,6 +1,6 @@
 -- Laws of a walk's steps, and of two answers that are gone through side by side.
 use Prim.Native.Nat.{ℕ, suc, ◌+◌, ◌≤◌, ◌<◌}
-use mathlib.Core.Path.{◌≡◌, sym, ◌∙◌}
+use mathlib.Core.Path.{◌≡◌, refl, sym, ◌∙◌}
 use mathlib.Core.List.{List, [], ◌∷◌}
 use mathlib.Core.Bool.{Bool, true, false, cond, not}
 use native.Mathlib.Nat.{add-zero, zero-add}
@@ -8,11 +8,10 @@ use native.Mathlib.Omega.{arith}
 use borrow.Author.Tests.{eq-eqb, ne_eqb, eqb-true, eqb-false, not-true, not-false}
 use lib.Dec.{eqb}
 use lib.ListN.{length, get_or, drop}
+use Rattle.std.specs.Prelude.{Option, Some, None, is_none}
 use Rattle.rules.specs.Words.{Word, same}
 use Rattle.rules.specs.Machines.{Machine, after, answer_from}
 use Rattle.rules.specs.Operations.{first_difference}
-use Rattle.walker.specs.declared.Difference.{Difference}
-use Rattle.walker.specs.declared.Difference.TheVariants.{Nowhere, At}
 use Rattle.walker.specs.Walks.{differ_at}
 use Rattle.walker.proofs.Words.{rest_more, rest_none}
 
@@ -33,12 +32,20 @@ module _ (M : Machine) (q : ℕ) (w : Word) (j : ℕ) where
     after_none ended = sym (so_far ∙ rw (rest_none w j ended))
 
 -- the first step at which two answers differ, the steps counted from j
-abbrev pub differ_from : ℕ → List ℕ → List ℕ → Difference
-differ_from j a b = cond (same a b) Nowhere (At (j + first_difference a b))
+abbrev pub differ_from : ℕ → List ℕ → List ℕ → Option ℕ
+differ_from j a b = cond (same a b) None (Some (j + first_difference a b))
 
 pub differ_start : (a b : List ℕ) → differ_at a b ≡ differ_from 0 a b
 unfolding differ_at
 differ_start a b = rw (zero-add (first_difference a b))
+
+none_when : (t : Bool) (step : ℕ) → is_none {T = ℕ} (cond t None (Some step)) ≡ t
+none_when true step = refl
+none_when false step = refl
+
+pub differ_none : (a b : List ℕ) → is_none (differ_at a b) ≡ same a b
+unfolding differ_at
+differ_none a b = none_when (same a b) (first_difference a b)
 
 -- What is left of two answers begins with x and y; whether these are the same has been found to be t.
 module _ (a b a' b' : List ℕ) (x y : ℕ) (t : Bool) (ea : a ≡ x ∷ a') (eb : b ≡ y ∷ b') (is : t ≡ eqb x y) where
@@ -53,7 +60,7 @@ module _ (a b a' b' : List ℕ) (x y : ℕ) (t : Bool) (ea : a ≡ x ∷ a') (eb
       let s : j + suc (first_difference a' b') ≡ j + 1 + first_difference a' b' = omega arith in
       rw (ea, eb, eq-eqb x y (eqb-true x y (sym is ∙ not-false t e)), s)
 
-  differ_here : (j : ℕ) → not t ≡ true → differ_from j a b ≡ At j
+  differ_here : (j : ℕ) → not t ≡ true → differ_from j a b ≡ Some j
   differ_here j e = rw (ea, eb, ne_eqb x y (eqb-false x y (sym is ∙ not-true t e)), add-zero j)
 
 -- Two states answer the word w from its step j on alike or not, as x says of the whole.
@@ -71,28 +78,28 @@ module _ (G U : Machine) (w : Word) (j g u : ℕ) (x : Bool) (so_far : x ≡ sam
   alike_end ended = sym (so_far ∙ rw (answer_none G g w j ended, answer_none U u w j ended))
 
 -- The answers of two states to the word w from its step j on differ where x says that the whole answers do.
-module _ (G U : Machine) (w : Word) (j g u : ℕ) (x : Difference) (so_far : x ≡ differ_from j (answer_from G g (drop j w)) (answer_from U u (drop j w))) where
+module _ (G U : Machine) (w : Word) (j g u : ℕ) (x : Option ℕ) (so_far : x ≡ differ_from j (answer_from G g (drop j w)) (answer_from U u (drop j w))) where
   module _ (i : ℕ) (t : Bool) (less : j < length w) (is : i ≡ get_or w j 0) (told : t ≡ eqb (G.output g i) (U.output u i)) where
     pub differ_more : (g' u' : ℕ) → not t ≡ false → g' ≡ G.next g i → u' ≡ U.next u i
         → x ≡ differ_from (j + 1) (answer_from G g' (drop (j + 1) w)) (answer_from U u' (drop (j + 1) w))
     differ_more g' u' e to to' =
         so_far ∙ rw (to, to') (differ_on _ _ _ _ _ _ t (answer_more G g w j i less is) (answer_more U u w j i less is) told j e)
 
-    pub differ_found : not t ≡ true → At j ≡ x
+    pub differ_found : not t ≡ true → Some j ≡ x
     differ_found e = sym (so_far ∙ differ_here _ _ _ _ _ _ t (answer_more G g w j i less is) (answer_more U u w j i less is) told j e)
 
-  pub differ_end : length w ≤ j → Nowhere ≡ x
+  pub differ_end : length w ≤ j → None ≡ x
   differ_end ended = sym (so_far ∙ rw (answer_none G g w j ended, answer_none U u w j ended))
 
 -- The same of the answer of a state and the recorded outputs o.
-module _ (G : Machine) (w : Word) (o : List ℕ) (j g : ℕ) (x : Difference) (long : length o ≡ length w) (so_far : x ≡ differ_from j (answer_from G g (drop j w)) (drop j o)) where
+module _ (G : Machine) (w : Word) (o : List ℕ) (j g : ℕ) (x : Option ℕ) (long : length o ≡ length w) (so_far : x ≡ differ_from j (answer_from G g (drop j w)) (drop j o)) where
   module _ (i : ℕ) (t : Bool) (less : j < length w) (is : i ≡ get_or w j 0) (told : t ≡ eqb (G.output g i) (get_or o j 0)) where
     pub recorded_more : (g' : ℕ) → not t ≡ false → g' ≡ G.next g i → x ≡ differ_from (j + 1) (answer_from G g' (drop (j + 1) w)) (drop (j + 1) o)
     recorded_more g' e to =
         so_far ∙ rw to (differ_on _ _ _ _ _ _ t (answer_more G g w j i less is) (rest_more o j (rw long less)) told j e)
 
-    pub recorded_found : not t ≡ true → At j ≡ x
+    pub recorded_found : not t ≡ true → Some j ≡ x
     recorded_found e = sym (so_far ∙ differ_here _ _ _ _ _ _ t (answer_more G g w j i less is) (rest_more o j (rw long less)) told j e)
 
-  pub recorded_end : length w ≤ j → Nowhere ≡ x
+  pub recorded_end : length w ≤ j → None ≡ x
   recorded_end ended = sym (so_far ∙ rw (answer_none G g w j ended, rest_none o j (rw long ended)))

@@ -1,6 +1,5 @@
-use Prim.Native.Nat.{suc, ◌+◌, ◌-◌, ◌≤◌}
+use Prim.Native.Nat.{suc, ◌+◌}
 use mathlib.Core.Path.{◌≡◌}
-use lib.ListN.{length}
 use Rattle.trie.specs.Model.{Trie, size}
 use Rattle.trie.specs.Holds.{Holds}
 use Rattle.builder_branches.specs.Growing.{Separator, Done}
@@ -14,8 +13,4 @@ abbrev pub decreases-grow_children : goal.decreases-grow_children
 decreases-grow_children l = l.left + l.left
 
 abbrev pub invariant-grow_children-loop-a : goal.invariant-grow_children-loop-a
-invariant-grow_children-loop-a l = (l.a ≤ l.inputs) × (length l.label ≡ length l.initial.label) × (length l.first ≡ length l.initial.first) × (length l.next ≡ length l.initial.next) × (length l.done ≡ length l.initial.done)
-    × ((t : Trie) → Holds t l.initial.label l.initial.first l.initial.next → l.nodes ≡ size t → Done l.inputs (Separator l.bytes l.places l.n) t l.initial.done → Turning l.inputs (Separator l.bytes l.places l.n) t l.node l.left l.a l.label l.first l.next l.done l.count)
-
-abbrev pub decreases-grow_children-loop-a : goal.decreases-grow_children-loop-a
-decreases-grow_children-loop-a l = l.inputs - l.a
+invariant-grow_children-loop-a l = (t : Trie) → Holds t l.initial.label l.initial.first l.initial.next → l.nodes ≡ size t → Done l.inputs (Separator l.bytes l.places l.n) t l.initial.done → Turning l.inputs (Separator l.bytes l.places l.n) t l.node l.left l.a l.label l.first l.next l.done l.count

@@ -4,9 +4,6 @@ use Rattle.theory.proofs.Bounds.{compare_fits}
 use borrow.Author.Rules.{rules}
 use Rattle.bureau_lines.proofs.compare_line.Goals as goal
 
-pub slice_bounds-word_line-end-in-Differs : goal.slice_bounds-word_line-end-in-Differs
-slice_bounds-word_line-end-in-Differs c = (telling _ _ _ _ _ c.compare.ensures c.telling_room-room.ensures _ c.in-Differs.is).inside
-
 pub word_line-requires : goal.word_line-requires
 word_line-requires c = let (short, valid) = telling_spelled _ _ _ _ _ c.compare.ensures c.telling_room-room.ensures _ (telling _ _ _ _ _ c.compare.ensures c.telling_room-room.ensures _ c.in-Differs.is) in (search rules, short, valid)
 

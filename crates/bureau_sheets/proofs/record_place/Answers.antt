@@ -1,8 +1,6 @@
 use Rattle.bureau_sheets.proofs.Deviating.{looking_start, looking_here, looking_next, looking_found}
-use Prim.Native.Nat.{◌-◌}
 use native.Mathlib.Omega.{arith}
 use mathlib.Core.Path.{◌∙◌, sym}
-use Rattle.reader.specs.Places.{records_at}
 use Rattle.bureau_sheets.proofs.record_place.Goals as goal
 
 pub loop-place-init : goal.loop-place-init

@@ -15,10 +15,10 @@ pub find_lack-requires : goal.find_lack-requires
 find_lack-requires c = begun _ _ c.requires.lent c.requires.bytes_value c.if-x-eq0.false _ c.longest_middle-longest.ensures.0 _ c.count-total.ensures.0 c.count-total.ensures.2
 
 pub middle-m-requires : goal.middle-m-requires
-middle-m-requires c = let sized = few_inputs _ _ c.requires.lent in (sized.0, sized.1, c.longest_middle-longest.ensures.1, lacking_inside c.args.bytes.now c.args.x _ c.find_lack.ensures _ _ _ c.in-At.is _ c.longest_middle-longest.ensures.0)
+middle-m-requires c = let sized = few_inputs _ _ c.requires.lent in (sized.0, sized.1, c.longest_middle-longest.ensures.1, lacking_inside c.args.bytes.now c.args.x _ c.find_lack.ensures _ _ _ c.in-Some.is _ c.longest_middle-longest.ensures.0)
 
-pub returns-in-Nowhere : goal.returns-in-Nowhere
-returns-in-Nowhere c = none_lacking c.args.bytes.now c.args.x _ c.find_lack.ensures c.in-Nowhere.is
+pub returns-in_default : goal.returns-in_default
+returns-in_default c = none_lacking c.args.bytes.now c.args.x _ c.find_lack.ensures c.in_default.is
 
-pub returns-in-At : goal.returns-in-At
-returns-in-At c = some_lacking c.args.bytes.now c.args.x _ c.find_lack.ensures _ _ _ c.in-At.is _ c.longest_middle-longest.ensures.0 _ c.middle-m.ensures
+pub returns : goal.returns
+returns c = some_lacking c.args.bytes.now c.args.x _ c.find_lack.ensures _ _ _ c.in-Some.is _ c.longest_middle-longest.ensures.0 _ c.middle-m.ensures

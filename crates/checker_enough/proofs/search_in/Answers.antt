@@ -38,31 +38,7 @@ pub put_words-requires-2-clause-first_len : goal.put_words-requires-2-clause-fir
 put_words-requires-2-clause-first_len c = (c.put_words.auto.first ∙ c.requires.label_len.1 ∙ sym (c.put_words.auto.label ∙ c.requires.label_len.0), c.put_words.auto.next ∙ c.requires.label_len.2 ∙ sym (c.put_words.auto.label ∙ c.requires.label_len.0))
 
 pub find_missing-requires : goal.find_missing-requires
-find_missing-requires c = let few = firsts_few _ _ _ _ _ _ c.find_firsts-n.ensures in let long = (c.put_words-2.auto.label ∙ c.put_words.auto.label ∙ c.requires.label_len.0) in record { lent = c.requires.begun.lent; some_test = c.requires.begun.some_test; some_separator = c.requires.begun.some_separator; all_middles = c.requires.begun.all_middles; few_middles = c.requires.begun.few_middles; holds = c.put_words-2.ensures; no_marks = c.clear_marks.ensures; none_done = c.clear_marks-2.ensures; marks_long = c.clear_marks.auto.marks ∙ c.find_firsts-n.auto.marks ∙ c.requires.marks_len.0 ∙ sym long; done_long = c.clear_marks-2.auto.marks ∙ c.requires.marks_len.1 ∙ sym long; nodes_long = c.requires.marks_len.2; once = c.find_firsts-n.ensures; numbers_long = omega (arith, few, c.requires.begun.lent.stands.separating_inside, c.requires.begun.lent.stands.size, c.find_firsts-n.auto.numbers, c.requires.marks_len.3); places_long = omega (arith, few, c.requires.begun.lent.stands.separating_inside, c.requires.begun.lent.stands.size, c.find_firsts-n.auto.places, c.requires.marks_len.4) }
-
-pub shape_of-label : goal.shape_of-label
-shape_of-label c = c.put_words-2.auto.label ∙ c.put_words.auto.label
-
-pub shape_of-first : goal.shape_of-first
-shape_of-first c = c.put_words-2.auto.first ∙ c.put_words.auto.first
-
-pub shape_of-next : goal.shape_of-next
-shape_of-next c = c.put_words-2.auto.next ∙ c.put_words.auto.next
-
-pub shape_of-marks : goal.shape_of-marks
-shape_of-marks c = c.find_missing.auto.marks ∙ c.clear_marks.auto.marks ∙ c.find_firsts-n.auto.marks
-
-pub shape_of-done : goal.shape_of-done
-shape_of-done c = c.find_missing.auto.done ∙ c.clear_marks-2.auto.marks
-
-pub shape_of-nodes : goal.shape_of-nodes
-shape_of-nodes c = c.find_missing.auto.nodes
-
-pub shape_of-numbers : goal.shape_of-numbers
-shape_of-numbers c = c.find_firsts-n.auto.numbers
-
-pub shape_of-places : goal.shape_of-places
-shape_of-places c = c.find_firsts-n.auto.places
+find_missing-requires c = let few = firsts_few _ _ _ _ _ _ c.find_firsts-n.ensures in let long = (c.put_words-2.auto.label ∙ c.put_words.auto.label ∙ c.requires.label_len.0) in record { lent = c.requires.begun.lent; some_test = c.requires.begun.some_test; some_separator = c.requires.begun.some_separator; all_middles = c.requires.begun.all_middles; few_middles = c.requires.begun.few_middles; holds = c.put_words-2.ensures; no_marks = c.clear_marks.ensures; none_done = c.clear_marks-2.ensures; marks_long = c.clear_marks.auto.marks ∙ c.find_firsts-n.auto.marks ∙ c.requires.marks_len.0 ∙ sym long; done_long = c.clear_marks-2.auto.marks ∙ c.requires.marks_len.1 ∙ sym long; kept_long = c.requires.marks_len.2; once = c.find_firsts-n.ensures; numbers_long = omega (arith, few, c.requires.begun.lent.stands.separating_inside, c.requires.begun.lent.stands.size, c.find_firsts-n.auto.numbers, c.requires.marks_len.3); places_long = omega (arith, few, c.requires.begun.lent.stands.separating_inside, c.requires.begun.lent.stands.size, c.find_firsts-n.auto.places, c.requires.marks_len.4) }
 
 pub returns : goal.returns
 returns c = c.find_missing.ensures

@@ -1,19 +1,8 @@
-use native.Mathlib.Omega.{arith}
-use mathlib.Core.Path.{sym, ◌∙◌}
 use Rattle.comparer_search.proofs.Trying.{put_met, put_new}
 use Rattle.comparer_search.proofs.put.Goals as goal
 
 pub returns-then-is_met : goal.returns-then-is_met
 returns-then-is_met c = put_met _ _ _ _ _ _ c.is_met.ensures c.if-is_met.true
-
-pub offset_bounds-queue-tail : goal.offset_bounds-queue-tail
-offset_bounds-queue-tail c = omega (arith, (c.requires.tail_lt_pairs (sym c.is_met.ensures ∙ c.if-is_met.false)))
-
-pub bounds-queue-tail : goal.bounds-queue-tail
-bounds-queue-tail c = omega (arith, (c.requires.tail_lt_pairs (sym c.is_met.ensures ∙ c.if-is_met.false)), c.requires.mark_table.1)
-
-pub overflow_add-result : goal.overflow_add-result
-overflow_add-result c = omega (arith, (c.requires.tail_lt_pairs (sym c.is_met.ensures ∙ c.if-is_met.false)))
 
 pub returns : goal.returns
 returns c = put_new _ _ _ _ _ _ c.is_met.ensures c.if-is_met.false _ _ c.meet.ensures c.entry.ensures

@@ -1,13 +1,15 @@
-use Prim.Native.Nat.{◌-◌, ◌≤◌, ◌<◌}
-use mathlib.Core.Path.{◌≡◌}
-use lib.ListN.{length}
-use Rattle.comparer_pairs.specs.Pairs.{pairs, golden_at, unit_at}
+use Rattle.std.proofs.Common.{◌≡◌, ◌<◌, ◌≤◌, length}
+use Rattle.walker.specs.Machines.{machine_in}
+use Rattle.comparer_pairs.specs.Pairs.{pairs}
 use Rattle.comparer_pairs.specs.Queue.{step_of}
 use Rattle.comparer_search.specs.Search.{Searched}
 use Rattle.comparer_search.proofs.try_entry.Given as goal
 
 abbrev pub invariant-loop-i : goal.invariant-loop-i
-invariant-loop-i l = Searched l.sides.inputs (golden_at l.dossier l.sides) (unit_at l.unit l.sides) l.marks l.queue (step_of l.head l.i) l.last × (l.head < l.last) × (l.last ≤ pairs) × (l.i ≤ l.sides.inputs) × (length l.marks ≡ length l.initial.marks) × (length l.queue ≡ length l.initial.queue)
-
-abbrev pub decreases-loop-i : goal.decreases-loop-i
-decreases-loop-i l = l.sides.inputs - l.i
+invariant-loop-i l = record {
+  searched : Searched l.sides.golden.inputs (machine_in l.sides.golden) (machine_in l.sides.unit) l.marks l.queue (step_of l.head l.i) l.last;
+  ahead : l.head < l.last;
+  few : l.last ≤ pairs;
+  marks_long : length l.marks ≡ length l.initial.marks;
+  queue_long : length l.queue ≡ length l.initial.queue;
+}

@@ -1,40 +1,21 @@
-use Rattle.finder_spelling.proofs.Rows.{rows_begin, rows_size, rows_room, rows_few, rows_next, rows_end}
-use Prim.Native.Nat.{◌-◌}
+use Rattle.finder_spelling.proofs.Rows.{rows_begin, rows_room, rows_few, rows_next, rows_end}
 use native.Mathlib.Omega.{arith}
 use Rattle.finder_spelling.proofs.spell_pairs.Goals as goal
 
 pub loop-p-init : goal.loop-p-init
-loop-p-init c = rows_begin c.args.unit.now c.args.x c.args.distances.now c.args.text.now
-
-pub spell_row-place-requires-clause-unit_at : goal.spell_row-place-requires-clause-unit_at
-spell_row-place-requires-clause-unit_at c = c.requires.unit_at
-
-pub spell_row-place-requires-clause-distances_at : goal.spell_row-place-requires-clause-distances_at
-spell_row-place-requires-clause-distances_at c = c.requires.distances_at
+loop-p-init c = rows_begin c.args.unit.now.bytes.now c.args.unit.now.shape c.args.distances.now c.args.text.now
 
 pub spell_row-place-requires-clause-p_lt_states : goal.spell_row-place-requires-clause-p_lt_states
 spell_row-place-requires-clause-p_lt_states c = omega (arith, c.numbered.ensures, c.loop-p-test.true)
 
 pub spell_row-place-requires-clause-p_in_bounds : goal.spell_row-place-requires-clause-p_in_bounds
-spell_row-place-requires-clause-p_in_bounds c = rows_room c.args.unit.now c.args.x c.args.distances.now c.args.text.now c.loop-p.p c.loop-p.text c.loop-p.place c.loop-p.count c.loop-p.invariant _ c.loop-p-test.true c.numbered.ensures c.requires.states_in_bounds
-
-pub overflow_add-p : goal.overflow_add-p
-overflow_add-p c = omega (arith, c.loop-p-test.true, c.requires.unit_at.few_states)
-
-pub overflow_sub-states : goal.overflow_sub-states
-overflow_sub-states c = omega (arith, c.loop-p-test.true)
-
-pub overflow_add-count : goal.overflow_add-count
-overflow_add-count c = omega (arith, c.wide-count.ensures.0, rows_few c.args.unit.now c.args.x c.args.distances.now c.args.text.now c.loop-p.p c.loop-p.text c.loop-p.place c.loop-p.count c.loop-p.invariant c.loop-p-test.true c.requires.unit_at.few_states)
-
-pub loop-p-smaller : goal.loop-p-smaller
-loop-p-smaller c = omega (arith, c.loop-p-test.true)
+spell_row-place-requires-clause-p_in_bounds c = rows_room c.args.unit.now.bytes.now c.args.unit.now.shape c.args.distances.now c.args.text.now c.loop-p.p c.loop-p.text c.loop-p.place c.loop-p.count c.loop-p.invariant _ c.loop-p-test.true c.numbered.ensures c.requires.states_in_bounds
 
 pub loop-p-preserved : goal.loop-p-preserved
-loop-p-preserved c = rows_next c.args.unit.now c.args.x c.args.distances.now c.args.text.now c.loop-p.p c.loop-p.text c.loop-p.place c.loop-p.count c.loop-p.invariant _ _ _ _ c.loop-p-test.true c.numbered.ensures c.spell_row-place.ensures c.wide-count.ensures.0
-
-pub shape_of-text : goal.shape_of-text
-shape_of-text c = rows_size c.args.unit.now c.args.x c.args.distances.now c.args.text.now c.loop-p.p c.loop-p.text c.loop-p.place c.loop-p.count c.loop-p.invariant
+loop-p-preserved c = rows_next c.args.unit.now.bytes.now c.args.unit.now.shape c.args.distances.now c.args.text.now c.loop-p.p c.loop-p.text c.loop-p.place c.loop-p.count c.loop-p.invariant _ _ _ _ c.loop-p-test.true c.numbered.ensures c.spell_row-place.ensures (omega (arith, c.wide-count.ensures.0))
 
 pub returns : goal.returns
-returns c = rows_end c.args.unit.now c.args.x c.args.distances.now c.args.text.now c.loop-p.p c.loop-p.text c.loop-p.place c.loop-p.count c.loop-p.invariant c.loop-p-test.false
+returns c = rows_end c.args.unit.now.bytes.now c.args.unit.now.shape c.args.distances.now c.args.text.now c.loop-p.p c.loop-p.text c.loop-p.place c.loop-p.count c.loop-p.invariant c.loop-p-test.false
+
+pub overflow_add-count : goal.overflow_add-count
+overflow_add-count c = omega (arith, c.wide-count.ensures.0, rows_few c.args.unit.now.bytes.now c.args.unit.now.shape c.args.distances.now c.args.text.now c.loop-p.p c.loop-p.text c.loop-p.place c.loop-p.count c.loop-p.invariant c.loop-p-test.true c.args.unit.now.stands.few_states)

@@ -1,9 +1,5 @@
 use Rattle.finder_spelling.proofs.Rows.{InRows}
-use Prim.Native.Nat.{◌-◌}
 use Rattle.finder_spelling.proofs.spell_pairs.Given as goal
 
 abbrev pub invariant-loop-p : goal.invariant-loop-p
-invariant-loop-p l = InRows l.unit l.x l.distances l.initial.text l.p l.text l.place l.count
-
-abbrev pub decreases-loop-p : goal.decreases-loop-p
-decreases-loop-p l = l.states - l.p
+invariant-loop-p l = InRows l.unit.bytes.now l.unit.shape l.distances l.initial.text l.p l.text l.place l.count

@@ -18,16 +18,16 @@ pub find_silent-requires : goal.find_silent-requires
 find_silent-requires c = (c.requires.ranked.entered.room.0, numbers_in _ _ _ _ _ _ c.requires.ranked _ c.number_states-numbers.ensures, c.requires.ranked.few_inputs)
 
 pub returns-then-room-size : goal.returns-then-room-size
-returns-then-room-size c = λ said ranked. no_room said _ _ _ _ _ ranked _ c.number_states-numbers.ensures _ c.find_silent.ensures c.in-Nowhere.is _ _ (omega arith) (omega (arith, c.if-room-size.true))
+returns-then-room-size c = λ said ranked. no_room said _ _ _ _ _ ranked _ c.number_states-numbers.ensures _ c.find_silent.ensures c.in_default.is _ _ (omega arith) (omega (arith, c.if-room-size.true))
 
 pub write_unit-requires-clause-tables : goal.write_unit-requires-clause-tables
-write_unit-requires-clause-tables c = tables _ _ _ _ _ _ c.requires.ranked _ c.number_states-numbers.ensures _ c.find_silent.ensures c.in-Nowhere.is
+write_unit-requires-clause-tables c = tables _ _ _ _ _ _ c.requires.ranked _ c.number_states-numbers.ensures _ c.find_silent.ensures c.in_default.is
 
 pub write_unit-requires-clause-inputs_in_bounds : goal.write_unit-requires-clause-inputs_in_bounds
 write_unit-requires-clause-inputs_in_bounds c = omega (arith, c.if-room-size.false)
 
-pub returns-in-At : goal.returns-in-At
-returns-in-At c = λ said ranked. incomplete said _ _ _ _ _ ranked _ c.number_states-numbers.ensures _ c.find_silent.ensures _ _ c.in-At.is _
+pub returns-in-Some : goal.returns-in-Some
+returns-in-Some c = λ said ranked. incomplete said _ _ _ _ _ ranked _ c.number_states-numbers.ensures _ c.find_silent.ensures _ _ c.in-Some.is _
 
-pub returns-else-room-size : goal.returns-else-room-size
-returns-else-room-size c = λ said ranked. complete said _ _ _ _ _ ranked _ c.number_states-numbers.ensures _ c.find_silent.ensures c.in-Nowhere.is _ _ c.write_unit.ensures _ (omega arith) (omega (arith, c.if-room-size.false))
+pub returns : goal.returns
+returns c = λ said ranked. complete said _ _ _ _ _ ranked _ c.number_states-numbers.ensures _ c.find_silent.ensures c.in_default.is _ _ c.write_unit.ensures _ (omega arith) (omega (arith, c.if-room-size.false))

@@ -9,17 +9,8 @@ loop-j-init c = ranking_start _ _ _
 pub give_rank-all-requires : goal.give_rank-all-requires
 give_rank-all-requires c = (c.loop-j.invariant.long ∙ c.requires.0, omega (arith, c.requires.1, c.loop-j-test.true), omega (arith, c.loop-j.invariant.few, c.requires.1, c.requires.2, c.loop-j-test.true))
 
-pub overflow_add-j : goal.overflow_add-j
-overflow_add-j c = omega (arith, c.requires.1, c.loop-j-test.true)
-
-pub loop-j-smaller : goal.loop-j-smaller
-loop-j-smaller c = omega (arith, c.loop-j-test.true)
-
 pub loop-j-preserved : goal.loop-j-preserved
 loop-j-preserved c = ranking_next _ _ _ _ _ _ c.loop-j.invariant c.loop-j-test.true _ _ c.give_rank-all.auto.ranks c.give_rank-all.ensures
-
-pub shape_of-ranks : goal.shape_of-ranks
-shape_of-ranks c = c.loop-j.invariant.long
 
 pub returns : goal.returns
 returns c = ranking_done _ _ _ _ _ _ c.loop-j.invariant (omega (arith, c.loop-j-test.false))

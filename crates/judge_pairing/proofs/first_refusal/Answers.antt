@@ -1,7 +1,7 @@
 use Rattle.judge_pairing.proofs.first_refusal.Goals as goal
 
-pub returns-in-At : goal.returns-in-At
-returns-in-At c = rw c.in-At.is
+pub returns-in-Some : goal.returns-in-Some
+returns-in-Some c = rw c.in-Some.is
 
-pub returns-in-At-absent : goal.returns-in-At-absent
-returns-in-At-absent c = rw (c.in-Nothing.is, c.in-At-absent.is)
+pub returns-in-Some-absent : goal.returns-in-Some-absent
+returns-in-Some-absent c = rw (c.in_default.is, c.in-Some-absent.is)

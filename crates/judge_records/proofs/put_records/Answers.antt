@@ -1,7 +1,4 @@
-use Rattle.reader.proofs.Held.{records_inside}
-use Prim.Native.Nat.{◌-◌, ◌<◌}
 use native.Mathlib.Omega.{arith}
-use mathlib.Core.Path.{refl, ◌∙◌}
 use Rattle.judge_records.proofs.Standing.{record_whole}
 use Rattle.judge_records.proofs.Filing.{filing_begin, filing_counted, filing_old, filing_next, filing_full, filing_end, at_not_nothing}
 use Rattle.judge_records.proofs.put_records.Goals as goal
@@ -13,75 +10,31 @@ pub start-nodes-requires-clause-first_len : goal.start-nodes-requires-clause-fir
 start-nodes-requires-clause-first_len c = (c.requires.first_len.0, c.requires.first_len.1)
 
 pub loop-i-init : goal.loop-i-init
-loop-i-init c = (filing_begin _ _ _ _ _ _ _ _ _ c.requires.records_at.0 c.requires.records_at.1 c.start-nodes.ensures.1 c.start-nodes.ensures.0 c.clear_values.ensures, refl, refl, refl, refl)
+loop-i-init c = filing_begin _ _ _ _ _ _ _ _ _ c.requires.records_at.0 c.requires.records_at.1 c.start-nodes.ensures.1 c.start-nodes.ensures.0 c.clear_values.ensures
 
 pub put_record-requires-clause-whole : goal.put_record-requires-clause-whole
-put_record-requires-clause-whole c = ((record_whole _ _ _ _ _ _ c.loop-i.invariant.0.left c.loop-i-test.true).0.inside, c.requires.records_at.2)
+put_record-requires-clause-whole c = ((record_whole _ _ _ _ _ _ c.loop-i.invariant.left c.loop-i-test.true).0.inside, c.requires.records_at.2)
 
 pub put_record-requires-clause-counted : goal.put_record-requires-clause-counted
-put_record-requires-clause-counted c = filing_counted c.loop-i.invariant.0
-
-pub put_record-requires-clause-value_len : goal.put_record-requires-clause-value_len
-put_record-requires-clause-value_len c = omega (arith, c.loop-i.invariant.4, c.clear_values.auto.value, c.requires.first_len.2, c.loop-i.invariant.1, c.start-nodes.auto.label)
-
-pub shape_of-label-in-Old : goal.shape_of-label-in-Old
-shape_of-label-in-Old c = c.put_record.auto.label ∙ c.loop-i.invariant.1 ∙ c.start-nodes.auto.label
-
-pub shape_of-first-in-Old : goal.shape_of-first-in-Old
-shape_of-first-in-Old c = c.put_record.auto.first ∙ c.loop-i.invariant.2 ∙ c.start-nodes.auto.first
-
-pub shape_of-next-in-Old : goal.shape_of-next-in-Old
-shape_of-next-in-Old c = c.put_record.auto.next ∙ c.loop-i.invariant.3 ∙ c.start-nodes.auto.next
-
-pub shape_of-value-in-Old : goal.shape_of-value-in-Old
-shape_of-value-in-Old c = c.put_record.auto.value ∙ c.loop-i.invariant.4 ∙ c.clear_values.auto.value
+put_record-requires-clause-counted c = filing_counted c.loop-i.invariant
 
 pub returns-in-Old-clause-value : goal.returns-in-Old-clause-value
-returns-in-Old-clause-value c = filing_old _ _ _ _ _ _ _ _ _ _ _ c.loop-i.invariant.0 c.loop-i-test.true _ _ _ _ _ c.put_record.ensures c.in-Old.is
+returns-in-Old-clause-value c = filing_old _ _ _ _ _ _ _ _ _ _ _ c.loop-i.invariant c.loop-i-test.true _ _ _ _ _ c.put_record.ensures c.in-Old.is
 
 pub returns-in-Old-clause-filed : goal.returns-in-Old-clause-filed
 returns-in-Old-clause-filed c = λ e. at_not_nothing e
 
-pub shape_of-label-in-Full : goal.shape_of-label-in-Full
-shape_of-label-in-Full c = c.put_record.auto.label ∙ c.loop-i.invariant.1 ∙ c.start-nodes.auto.label
-
-pub shape_of-first-in-Full : goal.shape_of-first-in-Full
-shape_of-first-in-Full c = c.put_record.auto.first ∙ c.loop-i.invariant.2 ∙ c.start-nodes.auto.first
-
-pub shape_of-next-in-Full : goal.shape_of-next-in-Full
-shape_of-next-in-Full c = c.put_record.auto.next ∙ c.loop-i.invariant.3 ∙ c.start-nodes.auto.next
-
-pub shape_of-value-in-Full : goal.shape_of-value-in-Full
-shape_of-value-in-Full c = c.put_record.auto.value ∙ c.loop-i.invariant.4 ∙ c.clear_values.auto.value
-
 pub returns-in-Full : goal.returns-in-Full
-returns-in-Full c = filing_full _ _ _ _ _ _ _ _ _ _ _ c.loop-i.invariant.0 c.loop-i-test.true _ _ _ _ _ c.put_record.ensures (omega (arith, c.requires.count_in_bounds.0, c.put_record.auto.label, c.loop-i.invariant.1, c.start-nodes.auto.label)) c.in-Full.is
+returns-in-Full c = filing_full _ _ _ _ _ _ _ _ _ _ _ c.loop-i.invariant c.loop-i-test.true _ _ _ _ _ c.put_record.ensures (omega (arith, c.requires.count_in_bounds.0, c.put_record.auto.label, c.loop-i.auto.label, c.start-nodes.auto.label)) c.in-Full.is
 
 pub record_end-at-requires : goal.record_end-at-requires
-record_end-at-requires c = (record_whole _ _ _ _ _ _ c.loop-i.invariant.0.left c.loop-i-test.true).1
-
-pub overflow_add-i : goal.overflow_add-i
-overflow_add-i c = let h = records_inside c.args.sheet.now c.args.place c.args.inputs c.args.count c.requires.records_at.0 in
-    let less : c.loop-i.i < c.args.count = c.loop-i-test.true in
-    omega (arith, c.requires.records_at.2)
+record_end-at-requires c = (record_whole _ _ _ _ _ _ c.loop-i.invariant.left c.loop-i-test.true).1
 
 pub loop-i-preserved : goal.loop-i-preserved
-loop-i-preserved c = (filing_next _ _ _ _ _ _ _ _ _ _ _ c.loop-i.invariant.0 c.loop-i-test.true _ _ _ _ _ c.put_record.ensures _ _ c.record_end-at.ensures c.in-New.is, c.put_record.auto.label ∙ c.loop-i.invariant.1, c.put_record.auto.first ∙ c.loop-i.invariant.2, c.put_record.auto.next ∙ c.loop-i.invariant.3, c.put_record.auto.value ∙ c.loop-i.invariant.4)
-
-pub shape_of-label : goal.shape_of-label
-shape_of-label c = c.loop-i.invariant.1 ∙ c.start-nodes.auto.label
-
-pub shape_of-first : goal.shape_of-first
-shape_of-first c = c.loop-i.invariant.2 ∙ c.start-nodes.auto.first
-
-pub shape_of-next : goal.shape_of-next
-shape_of-next c = c.loop-i.invariant.3 ∙ c.start-nodes.auto.next
-
-pub shape_of-value : goal.shape_of-value
-shape_of-value c = c.loop-i.invariant.4 ∙ c.clear_values.auto.value
+loop-i-preserved c = filing_next _ _ _ _ _ _ _ _ _ _ _ c.loop-i.invariant c.loop-i-test.true _ _ _ _ _ c.put_record.ensures _ _ c.record_end-at.ensures c.in-New.is
 
 pub returns-clause-value : goal.returns-clause-value
-returns-clause-value c = let done = filing_end _ _ _ _ _ _ _ _ _ _ _ c.loop-i.invariant.0 c.loop-i-test.false (omega (arith, c.loop-i.invariant.4, c.clear_values.auto.value, c.requires.first_len.2, c.loop-i.invariant.1, c.start-nodes.auto.label)) in done.0
+returns-clause-value c = let done = filing_end _ _ _ _ _ _ _ _ _ _ _ c.loop-i.invariant c.loop-i-test.false (omega (arith, c.loop-i.auto.value, c.clear_values.auto.value, c.requires.first_len.2, c.loop-i.auto.label, c.start-nodes.auto.label)) in done.0
 
 pub returns-clause-filed : goal.returns-clause-filed
-returns-clause-filed c = let done = filing_end _ _ _ _ _ _ _ _ _ _ _ c.loop-i.invariant.0 c.loop-i-test.false (omega (arith, c.loop-i.invariant.4, c.clear_values.auto.value, c.requires.first_len.2, c.loop-i.invariant.1, c.start-nodes.auto.label)) in λ e. done.1
+returns-clause-filed c = let done = filing_end _ _ _ _ _ _ _ _ _ _ _ c.loop-i.invariant c.loop-i-test.false (omega (arith, c.loop-i.auto.value, c.clear_values.auto.value, c.requires.first_len.2, c.loop-i.auto.label, c.start-nodes.auto.label)) in λ e. done.1

@@ -1,4 +1,3 @@
-use Prim.Native.Nat.{◌-◌}
 use mathlib.Core.Path.{◌≡◌}
 use mathlib.Core.List.{List}
 use mathlib.Core.Bool.{not}
@@ -13,7 +12,4 @@ use Rattle.judge_records.proofs.Standing.{WordsLeft, WordScan}
 use Rattle.judge_verdict.proofs.find_deviating.Given as goal
 
 abbrev pub invariant-loop-i : goal.invariant-loop-i
-invariant-loop-i l = WordsLeft l.dossier l.x.tests l.x.inputs l.x.count l.i l.word × (l.word ≡ word_place l.dossier l.x.tests l.i) × ((rs : List SheetRecord) → Filed l.sheet l.x.inputs rs l.label l.first l.next l.value → NoneRepeated rs → WordScan (λ (i, t). not (same (answer (machine_at l.dossier l.x.table l.x.inputs l.x.states) t) (recorded_for rs t))) l.dossier l.x.tests l.x.count l.i l.word)
-
-abbrev pub decreases-loop-i : goal.decreases-loop-i
-decreases-loop-i l = l.count - l.i
+invariant-loop-i l = WordsLeft l.dossier l.fn.x.tests l.fn.x.inputs l.fn.x.count l.i l.word × (l.word ≡ word_place l.dossier l.fn.x.tests l.i) × ((rs : List SheetRecord) → Filed l.sheet l.fn.x.inputs rs l.nodes.label.now l.nodes.first.now l.nodes.next.now l.value → NoneRepeated rs → WordScan (λ (i, t). not (same (answer (machine_at l.dossier l.fn.x.table l.fn.x.inputs l.fn.x.states) t) (recorded_for rs t))) l.dossier l.fn.x.tests l.fn.x.count l.i l.word)

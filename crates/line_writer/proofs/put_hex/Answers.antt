@@ -18,8 +18,5 @@ bounds-out-at c = omega (arith, c.loop-i.invariant.size, c.requires.word_in_boun
 pub loop-i-preserved : goal.loop-i-preserved
 loop-i-preserved c = let less : c.loop-i.i < length c.args.word.now = omega (arith, c.loop-i-test.true) in putting_next (hex c.args.word.now) _ _ _ _ c.loop-i.invariant _ (omega (arith, hex-length c.args.word.now)) (c.glyph.ensures ∙ sym (hex_at c.args.word.now _ less))
 
-pub shape_of-out : goal.shape_of-out
-shape_of-out c = c.loop-i.invariant.size
-
 pub returns : goal.returns
-returns c = putting_end (hex c.args.word.now) _ _ _ _ c.loop-i.invariant (omega (arith, c.loop-i-test.false, hex-length c.args.word.now))
+returns c = putting_end (hex c.args.word.now) _ _ _ _ c.loop-i.invariant (omega (arith, c.loop-i-test.false, hex-length c.args.word.now)) _ (omega (arith, hex-length c.args.word.now))

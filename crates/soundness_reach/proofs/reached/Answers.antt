@@ -1,36 +1,30 @@
-use Prim.Native.Nat.{◌<◌}
-use native.Mathlib.Omega.{arith}
-use mathlib.Core.Path.{◌∙◌}
-use lib.ListN.{length, length-set}
-use Rattle.reader.specs.Places.{words_at}
-use Rattle.reader.specs.Turns.{word_turn}
-use Rattle.reader.specs.Turns.{word_room, words_after}
+use Rattle.std.proofs.Common.{arith, ◌∙◌, length, ◌<◌}
+use lib.ListN.{length-set}
+use Rattle.walker.proofs.Turns.{turn, turns_start}
 use Rattle.soundness_reach.proofs.Marks.{unmarked-length, marking_start, marking_next, marking_end}
 use Rattle.soundness_reach.proofs.reached.Goals as goal
 
-pub loop-left-init : goal.loop-left-init
-loop-left-init c = (c.requires.words_at, rw c.blank-marks.ensures unmarked-length, marking_start _ _ _ _ _ _ _ c.requires.states_bound c.blank-marks.ensures)
+pub loop-init : goal.loop-init
+loop-init c = record {
+  stand = turns_start _ _ _ _ c.requires.words_at;
+  room = rw c.blank-marks.ensures unmarked-length;
+  marking = marking_start _ _ _ _ _ _ _ c.requires.states_bound c.blank-marks.ensures;
+}
 
-pub word_length-n-requires : goal.word_length-n-requires
-word_length-n-requires c = (word_turn _ _ _ _ c.loop-left-test.true c.loop-left.invariant.0).here.inside
+pub reached_by-state-requires : goal.reached_by-state-requires
+reached_by-state-requires c = (turn _ _ _ _ _ c.loop-test.true c.loop.invariant.stand).here
 
-pub reached_by-state-requires-clause-table_at : goal.reached_by-state-requires-clause-table_at
-reached_by-state-requires-clause-table_at c = c.requires.table_at
+pub word_end-word-requires : goal.word_end-word-requires
+word_end-word-requires c = (turn _ _ _ _ _ c.loop-test.true c.loop.invariant.stand).here.inside
 
-pub reached_by-state-requires-clause-word_at : goal.reached_by-state-requires-clause-word_at
-reached_by-state-requires-clause-word_at c = (word_turn _ _ _ _ c.loop-left-test.true c.loop-left.invariant.0).here
-
-pub bounds-marks-number : goal.bounds-marks-number
-bounds-marks-number c = omega (arith, c.number.ensures, c.reached_by-state.ensures.1, c.requires.states_bound, c.loop-left.invariant.1)
-
-pub overflow_add-word : goal.overflow_add-word
-overflow_add-word c = let h = word_room _ _ _ _ _ c.loop-left-test.true c.loop-left.invariant.0 c.word_length-n.ensures.1 in omega arith
-
-pub overflow_add-word-in-loop-left : goal.overflow_add-word-in-loop-left
-overflow_add-word-in-loop-left c = let h = word_room _ _ _ _ _ c.loop-left-test.true c.loop-left.invariant.0 c.word_length-n.ensures.1 in omega arith
-
-pub loop-left-preserved : goal.loop-left-preserved
-loop-left-preserved c = let in-marks : c.number.result < length c.loop-left.marks = omega (arith, c.number.ensures, c.reached_by-state.ensures.1, c.requires.states_bound, c.loop-left.invariant.1) in (words_after _ _ _ _ _ c.loop-left-test.true c.loop-left.invariant.0 c.word_length-n.ensures.1, simp length-set c.loop-left.invariant.1, marking_next _ _ _ _ _ _ c.loop-left.marks _ _ _ _ c.loop-left-test.true c.loop-left.invariant.0 c.word_length-n.ensures.1 (c.number.ensures ∙ c.reached_by-state.ensures.0) in-marks c.loop-left.invariant.2)
+pub loop-preserved : goal.loop-preserved
+loop-preserved c =
+    let inside : c.number.result < length c.loop.marks = omega (arith, c.number.ensures, c.reached_by-state.ensures.1, c.requires.states_bound, c.loop.invariant.room) in
+    record {
+      stand = rw c.word_end-word.ensures.0 (turn _ _ _ _ _ c.loop-test.true c.loop.invariant.stand).rest;
+      room = simp length-set c.loop.invariant.room;
+      marking = rw c.word_end-word.ensures.0 (marking_next _ _ _ _ _ _ c.loop.marks _ _ _ _ c.loop-test.true c.loop.invariant.stand (c.number.ensures ∙ c.reached_by-state.ensures.0) inside c.loop.invariant.marking);
+    }
 
 pub returns : goal.returns
-returns c = marking_end _ _ _ _ _ _ c.loop-left.marks _ _ c.loop-left-test.false c.loop-left.invariant.2
+returns c = marking_end _ _ _ _ _ _ c.loop.marks _ _ _ (c.loop-test.false) c.loop.invariant.marking

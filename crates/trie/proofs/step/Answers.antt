@@ -1,19 +1,15 @@
-use mathlib.Core.Path.{sym, ◌∙◌}
 use native.Mathlib.Omega.{arith}
 use Rattle.trie.proofs.Steps.{step_kept, step_made, step_full}
 use Rattle.trie.proofs.step.Goals as goal
 
-pub child-j-requires : goal.child-j-requires
-child-j-requires c = record { trie = c.requires.counted.trie; holds = c.requires.counted.holds; below = omega (arith, c.requires.counted.counted, c.requires.p_lt_count) }
+pub returns-in-Some : goal.returns-in-Some
+returns-in-Some c = λ t h k. step_kept t _ _ _ _ _ _ k _ _ (c.child.ensures t h (omega (arith, c.requires.p_lt_count))) c.in-Some.is h
 
-pub returns-then-j-ne0 : goal.returns-then-j-ne0
-returns-then-j-ne0 c = λ t h k. step_kept t _ _ _ (c.child-j.ensures t h (omega (arith, c.requires.p_lt_count))) _ _ _ _ k h c.if-j-ne0.true
-
-pub returns-then-count-label : goal.returns-then-count-label
-returns-then-count-label c = λ t h k.
-    let e = c.child-j.ensures t h (omega (arith, c.requires.p_lt_count)) in
-    step_made t _ _ _ e _ _ _ _ k _ (c.add-m.ensures.1 t h k (sym e ∙ c.if-j-ne0.false)) c.if-j-ne0.false c.add-m.ensures.0
+pub returns-then-label-count : goal.returns-then-label-count
+returns-then-label-count c = λ t h k.
+    step_full t _ _ c.args.label.now c.args.first.now c.args.next.now _ k (c.in_default.ensures t h (omega (arith, c.requires.p_lt_count))) c.if-label-count.true
 
 pub returns : goal.returns
 returns c = λ t h k.
-    step_full t c.args.p c.args.a.0 _ (c.child-j.ensures t h (omega (arith, c.requires.p_lt_count))) c.args.label.now c.args.first.now c.args.next.now c.args.count k c.if-j-ne0.false c.if-count-label.false
+    let none = c.in_default.ensures t h (omega (arith, c.requires.p_lt_count)) in
+    step_made t _ _ _ _ _ _ k _ none (c.add-m.ensures.1 t h k none) c.add-m.ensures.0

@@ -8,10 +8,7 @@ use Rattle.trie_lister.proofs.Measures.{Measuring}
 use Rattle.trie_lister.proofs.+measure.Given as goal
 
 abbrev pub decreases-measure : goal.decreases-measure
-decreases-measure l = length l.label.now - l.node
+decreases-measure l = length l.nodes.label.now - l.node
 
 abbrev pub invariant-loop-a : goal.invariant-loop-a
-invariant-loop-a l = (l.a ≤ l.k) × (l.n ≤ l.pos) × (l.pos ≤ l.room) × ((s : Trie) → Holds s l.label l.first l.next → l.node < size s → (d : ℕ) → size s ≤ l.node + d → (u : Word) → length u ≡ l.depth → Measuring s l.k d l.node u l.words l.at l.room l.a l.n l.pos)
-
-abbrev pub decreases-loop-a : goal.decreases-loop-a
-decreases-loop-a l = l.k - l.a
+invariant-loop-a l = (l.n ≤ l.pos) × (l.pos ≤ l.room) × ((s : Trie) → Holds s l.nodes.label.now l.nodes.first.now l.nodes.next.now → l.node < size s → (d : ℕ) → size s ≤ l.node + d → (u : Word) → length u ≡ l.depth → Measuring s l.k d l.node u l.words l.at l.room l.a l.n l.pos)

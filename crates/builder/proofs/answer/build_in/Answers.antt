@@ -12,7 +12,7 @@ pub grow_needed-requires-clause-done_len : goal.grow_needed-requires-clause-done
 grow_needed-requires-clause-done_len c = c.requires.done_len
 
 pub build_planted-requires : goal.build_planted-requires
-build_planted-requires c = planted c.requires.buildable _ _ _ c.grow_needed.result c.grow_needed.ensures _ c.in-Nodes.is
+build_planted-requires c = planted c.requires.buildable _ _ _ c.grow_needed.result c.grow_needed.ensures _ c.in-Some.is
 
-pub returns-in-Full : goal.returns-in-Full
-returns-in-Full c = over_promise c.requires.buildable _ (full_over c.requires.buildable c.grow_needed.new.label c.grow_needed.new.first c.grow_needed.new.next c.grow_needed.result c.grow_needed.ensures c.in-Full.is)
+pub returns-in-None : goal.returns-in-None
+returns-in-None c = over_promise c.requires.buildable _ (full_over c.requires.buildable c.grow_needed.new.label c.grow_needed.new.first c.grow_needed.new.next c.grow_needed.result c.grow_needed.ensures c.in-None.is)

@@ -1,13 +1,6 @@
 use mathlib.Core.Path.{sym}
-use Rattle.reader.specs.Standing.{unit_at_lem}
 use Rattle.finder.proofs.Finding.{all_told}
 use Rattle.finder.proofs.answer.find_words.Goals as goal
-
-pub find_separators-count-requires-clause-unit_at : goal.find_separators-count-requires-clause-unit_at
-find_separators-count-requires-clause-unit_at c = unit_at_lem c.requires.bounded.given.stands
-
-pub find_separators-count-requires-clause-distances_at : goal.find_separators-count-requires-clause-distances_at
-find_separators-count-requires-clause-distances_at c = c.requires.apart
 
 pub find_separators-count-requires-clause-all_told : goal.find_separators-count-requires-clause-all_told
 find_separators-count-requires-clause-all_told c = all_told c.requires

@@ -10,7 +10,4 @@ use Rattle.finder_access.proofs.Covering.{bytes_from}
 use Rattle.finder_access.proofs.cover.measure_cover.Given as goal
 
 abbrev pub invariant-loop-q : goal.invariant-loop-q
-invariant-loop-q l = (l.q ≤ l.states) × (l.n ≤ most_states * l.q) × ((u : UnitData) → Reaches u l.queue l.places → u.states ≡ l.states → l.n + length (bytes_from u l.q (l.states - l.q)) ≡ length (flat_map word_bytes (found_cover u)))
-
-abbrev pub decreases-loop-q : goal.decreases-loop-q
-decreases-loop-q l = l.states - l.q
+invariant-loop-q l = (l.n ≤ most_states * l.q) × ((u : UnitData) → Reaches u l.queue l.places → u.states ≡ l.states → l.n + length (bytes_from u l.q (l.states - l.q)) ≡ length (flat_map word_bytes (found_cover u)))

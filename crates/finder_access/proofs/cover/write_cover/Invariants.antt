@@ -1,4 +1,4 @@
-use Prim.Native.Nat.{◌+◌, ◌-◌, ◌≤◌}
+use Prim.Native.Nat.{◌+◌, ◌-◌}
 use mathlib.Core.Path.{◌≡◌}
 use mathlib.Core.List.{flat_map}
 use lib.ListN.{length}
@@ -10,7 +10,4 @@ use Rattle.finder_access.proofs.Covering.{bytes_from}
 use Rattle.finder_access.proofs.cover.write_cover.Given as goal
 
 abbrev pub invariant-loop-q : goal.invariant-loop-q
-invariant-loop-q l = (l.q ≤ l.states) × (length l.out ≡ length l.initial.out) × ((u : UnitData) → Reaches u l.queue l.places → u.states ≡ l.states → (l.next + length (bytes_from u l.q (l.states - l.q)) ≡ l.at + length (flat_map word_bytes (found_cover u))) × (sets l.out l.next (bytes_from u l.q (l.states - l.q)) ≡ sets l.initial.out l.at (flat_map word_bytes (found_cover u))))
-
-abbrev pub decreases-loop-q : goal.decreases-loop-q
-decreases-loop-q l = l.states - l.q
+invariant-loop-q l = (length l.out ≡ length l.initial.out) × ((u : UnitData) → Reaches u l.queue l.places → u.states ≡ l.states → (l.next + length (bytes_from u l.q (l.states - l.q)) ≡ l.at + length (flat_map word_bytes (found_cover u))) × (sets l.out l.next (bytes_from u l.q (l.states - l.q)) ≡ sets l.initial.out l.at (flat_map word_bytes (found_cover u))))

@@ -1,4 +1,4 @@
-use Prim.Native.Nat.{◌≤◌, ◌-◌}
+use Prim.Native.Nat.{◌-◌}
 use mathlib.Core.Path.{◌≡◌}
 use Rattle.rules.specs.Lists.{first, numbers_from}
 use Rattle.rules.specs.Files.{UnitData}
@@ -8,7 +8,4 @@ use Rattle.finder_access.proofs.Covering.{lacking}
 use Rattle.finder_access.proofs.search.unreached.Given as goal
 
 abbrev pub invariant-loop-q : goal.invariant-loop-q
-invariant-loop-q l = (l.q ≤ l.states) × ((u : UnitData) → Marks u l.places → u.states ≡ l.states → unreachable u ≡ first (lacking u) (numbers_from l.q (l.states - l.q)))
-
-abbrev pub decreases-loop-q : goal.decreases-loop-q
-decreases-loop-q l = l.states - l.q
+invariant-loop-q l = ((u : UnitData) → Marks u l.places → u.states ≡ l.states → unreachable u ≡ first (lacking u) (numbers_from l.q (l.states - l.q)))

@@ -1,9 +1,5 @@
 use Rattle.finder_separators.proofs.Copying.{Copying}
-use Prim.Native.Nat.{◌-◌}
 use Rattle.finder_separators.proofs.written.copy_word.Given as goal
 
 abbrev pub invariant-loop-i : goal.invariant-loop-i
 invariant-loop-i l = Copying l.text l.word l.initial.out l.at l.out l.i
-
-abbrev pub decreases-loop-i : goal.decreases-loop-i
-decreases-loop-i l = l.size - l.i

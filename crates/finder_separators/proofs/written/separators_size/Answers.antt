@@ -1,31 +1,11 @@
 use Rattle.finder_separators.proofs.Copying.{measure_start, measure_next, measure_end}
-use Prim.Native.Nat.{◌-◌}
-use native.Mathlib.Omega.{arith}
 use Rattle.finder_separators.proofs.written.separators_size.Goals as goal
 
 pub loop-j-init : goal.loop-j-init
 loop-j-init c = measure_start c.args.text.now c.args.places.now c.args.count
 
-pub overflow_add-size : goal.overflow_add-size
-overflow_add-size c = omega (arith, c.loop-j.invariant.small, c.loop-j-test.true, c.requires.few)
-
-pub offset_bounds-places-j : goal.offset_bounds-places-j
-offset_bounds-places-j c = omega (arith, c.loop-j-test.true, c.requires.few)
-
-pub bounds-places-j : goal.bounds-places-j
-bounds-places-j c = omega (arith, c.loop-j-test.true, c.requires.long)
-
 pub word_length-requires : goal.word_length-requires
 word_length-requires c = rw c.wide_link.ensures (c.requires.whole c.loop-j.j c.loop-j-test.true)
-
-pub overflow_add-size-in-loop-j : goal.overflow_add-size-in-loop-j
-overflow_add-size-in-loop-j c = omega (arith, c.loop-j.invariant.small, c.loop-j-test.true, c.requires.few, c.word_length.ensures.2)
-
-pub overflow_add-j : goal.overflow_add-j
-overflow_add-j c = omega (arith, c.loop-j-test.true, c.requires.few)
-
-pub loop-j-smaller : goal.loop-j-smaller
-loop-j-smaller c = omega (arith, c.loop-j-test.true)
 
 pub loop-j-preserved : goal.loop-j-preserved
 loop-j-preserved c = measure_next c.args.text.now c.args.places.now c.args.count c.loop-j.size c.loop-j.j c.loop-j.invariant _ _ c.loop-j-test.true c.wide_link.ensures c.word_length.ensures.0 c.word_length.ensures.2

@@ -1,9 +1,5 @@
 use Rattle.finder_separators.proofs.Copying.{Measuring}
-use Prim.Native.Nat.{◌-◌}
 use Rattle.finder_separators.proofs.written.separators_size.Given as goal
 
 abbrev pub invariant-loop-j : goal.invariant-loop-j
 invariant-loop-j l = Measuring l.text l.places l.count l.size l.j
-
-abbrev pub decreases-loop-j : goal.decreases-loop-j
-decreases-loop-j l = l.count - l.j

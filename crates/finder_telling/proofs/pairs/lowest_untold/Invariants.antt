@@ -1,10 +1,6 @@
 use Rattle.finder_telling.specs.Pairs.{ToldBefore}
 use Rattle.finder_distances.specs.Marks.{place_of}
-use Prim.Native.Nat.{◌-◌}
 use Rattle.finder_telling.proofs.pairs.lowest_untold.Given as goal
 
 abbrev pub invariant-loop-p : goal.invariant-loop-p
 invariant-loop-p l = ToldBefore l.states l.distances (place_of l.p 0)
-
-abbrev pub decreases-loop-p : goal.decreases-loop-p
-decreases-loop-p l = l.states - l.p

@@ -1,28 +1,12 @@
 use Rattle.finder_telling.proofs.Lowest.{row_start, row_end, told_next, row_found}
-use Prim.Native.Nat.{◌-◌}
 use native.Mathlib.Omega.{arith}
 use Rattle.finder_telling.proofs.pairs.untold_row.Goals as goal
-
-pub overflow_add-q : goal.overflow_add-q
-overflow_add-q c = omega (arith, c.number-q.ensures, c.requires.p_lt_states.0, c.requires.p_lt_states.1)
 
 pub loop-q-init : goal.loop-q-init
 loop-q-init c = (row_start c.args.states c.args.distances.now c.requires.p_lt_states.1 c.args.p.0 _ c.number-q.ensures c.requires.told_before, omega (arith, c.number-q.ensures))
 
-pub distance_at-requires-clause-mark_table : goal.distance_at-requires-clause-mark_table
-distance_at-requires-clause-mark_table c = c.requires.mark_table
-
-pub distance_at-requires-clause-p_lt_most_states : goal.distance_at-requires-clause-p_lt_most_states
-distance_at-requires-clause-p_lt_most_states c = (omega (arith, c.requires.p_lt_states), omega (arith, c.numbered-other.ensures, c.loop-q-test.true, c.requires.p_lt_states))
-
 pub returns-then-distance_at-eq0 : goal.returns-then-distance_at-eq0
 returns-then-distance_at-eq0 c = row_found c.args.states c.args.distances.now c.requires.p_lt_states.1 c.args.p _ c.loop-q.q _ c.loop-q.invariant.1 c.loop-q-test.true c.numbered-other.ensures c.distance_at.ensures (omega (arith, c.if-distance_at-eq0.true)) c.loop-q.invariant.0
-
-pub overflow_add-q-in-loop-q : goal.overflow_add-q-in-loop-q
-overflow_add-q-in-loop-q c = omega (arith, c.loop-q-test.true, c.requires.p_lt_states)
-
-pub loop-q-smaller : goal.loop-q-smaller
-loop-q-smaller c = omega (arith, c.loop-q-test.true)
 
 pub loop-q-preserved : goal.loop-q-preserved
 loop-q-preserved c = (told_next c.args.states c.args.distances.now c.requires.p_lt_states.1 c.args.p.0 c.loop-q.q _ _ c.loop-q.invariant.1 c.loop-q-test.true c.numbered-other.ensures c.distance_at.ensures c.if-distance_at-eq0.false c.loop-q.invariant.0, omega (arith, c.loop-q.invariant.1))

@@ -1,15 +1,14 @@
-use mathlib.Core.Path.{sym, ◌∙◌}
-use Rattle.importer_lines.proofs.Scanning.{scan_start, scan_next, scan_here, scan_end}
+use Rattle.std.proofs.Common.{rules}
+use Rattle.std.proofs.lemmas.Iterator.{YieldsList-from_slice, IsFirst-from_position}
+use borrow.Author.Tests.{tests}
+use Rattle.std.proofs.Common.{◌≡◌, true, false}
+use Rattle.rules.specs.Kiss2.{is_gap}
+use Rattle.importer_lines.proofs.Scanning.{first_at}
 use Rattle.importer_lines.proofs.line_fields.field_end.Goals as goal
 
-pub loop-p-init : goal.loop-p-init
-loop-p-init c = scan_start _ _ _ _ c.requires.0
-
-pub returns-then-is_gap : goal.returns-then-is_gap
-returns-then-is_gap c = scan_here _ _ _ _ _ c.loop-p.invariant c.loop-p-test.true (sym c.is_gap.ensures ∙ c.if-is_gap.true)
-
-pub loop-p-preserved : goal.loop-p-preserved
-loop-p-preserved c = scan_next _ _ _ _ _ c.loop-p.invariant c.loop-p-test.true (sym c.is_gap.ensures ∙ c.if-is_gap.false)
-
 pub returns : goal.returns
-returns c = scan_end _ _ _ _ _ c.loop-p.invariant c.loop-p-test.false
+returns c =
+    first_at is_gap _ _ _ c.requires.0 c.requires.1 _ _
+    (IsFirst-from_position _ _ _ (λ b. is_gap b ≡ true) (λ b. is_gap b ≡ false) c.position-size.ensures.ran (YieldsList-from_slice _ cc)
+    (λ x q k. search (rules, tests)) (λ x q k. search (rules, tests)))
+    c.unwrap_or.ensures

@@ -1,15 +1,17 @@
-use borrow.Author.Tests.{eq-eqb, ne_eqb}
-use Rattle.importer_lines.proofs.Scanning.{scan_start, scan_next, scan_here, scan_end}
+use Rattle.std.proofs.Common.{rules}
+use Rattle.std.proofs.lemmas.Iterator.{YieldsList-from_slice, IsFirst-from_position}
+use borrow.Author.Tests.{tests}
+use Rattle.std.proofs.Common.{◌≡◌, true, false}
+use Rattle.std.proofs.Common.{arith}
+use Rattle.importer_lines.specs.Lines.{is_feed}
+use Rattle.importer_lines.proofs.Scanning.{first_at}
 use Rattle.importer_lines.proofs.lines.line_end.Goals as goal
 
-pub loop-p-init : goal.loop-p-init
-loop-p-init c = scan_start _ _ _ _ c.requires
-
-pub returns-then-text-p-eq10 : goal.returns-then-text-p-eq10
-returns-then-text-p-eq10 c = record { first = scan_here _ _ _ _ _ c.loop-p.invariant c.loop-p-test.true (eq-eqb _ _ c.if-text-p-eq10.true) }
-
-pub loop-p-preserved : goal.loop-p-preserved
-loop-p-preserved c = scan_next _ _ _ _ _ c.loop-p.invariant c.loop-p-test.true (ne_eqb _ _ c.if-text-p-eq10.false)
-
 pub returns : goal.returns
-returns c = record { first = scan_end _ _ _ _ _ c.loop-p.invariant c.loop-p-test.false }
+returns c =
+    record {
+      first = first_at is_feed _ _ _ c.requires (omega arith) _ _
+          (IsFirst-from_position _ _ _ (λ b. is_feed b ≡ true) (λ b. is_feed b ≡ false) c.position-size.ensures.ran (YieldsList-from_slice _ cc)
+          (λ x q k. search (rules, tests)) (λ x q k. search (rules, tests)))
+          c.unwrap_or.ensures;
+    }

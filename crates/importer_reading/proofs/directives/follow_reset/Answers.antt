@@ -10,13 +10,13 @@ pub number_name-requires-clause-slots_in : goal.number_name-requires-clause-slot
 number_name-requires-clause-slots_in c = some_slots c.requires.some_names
 
 pub give_rank-requires : goal.give_rank-requires
-give_rank-requires c = (c.requires.ranks_len.0, named_below _ _ _ _ _ _ _ (c.number_name.ensures _ c.requires.some_names.at c.requires.some_names.many) c.in-At.is, c.requires.ranks_len.1)
+give_rank-requires c = (c.requires.ranks_len.0, named_below _ _ _ _ _ _ _ (c.number_name.ensures _ c.requires.some_names.at c.requires.some_names.many) c.in-Some-number_name.is, c.requires.ranks_len.1)
 
-pub returns-in-Bad : goal.returns-in-Bad
-returns-in-Bad c = λ before nexts outputs held. reset_bad before _ _ _ nexts outputs _ held _ _ (c.count_reset.ensures before _ held.counted) c.in-Bad.is _ _ _
+pub returns-in_default : goal.returns-in_default
+returns-in_default c = λ before nexts outputs held. reset_bad before _ _ _ nexts outputs _ held _ _ (c.count_reset.ensures before _ held.counted) c.in_default.is _ _ _
 
-pub returns-in-Full : goal.returns-in-Full
-returns-in-Full c = λ before nexts outputs held. absurd (not_full before _ _ _ nexts outputs _ held _ _ (c.count_reset.ensures before _ held.counted) _ c.in-Goes.is _ _ _ (c.number_name.ensures _ held.named (sym held.many)) c.in-Full.is)
+pub returns-in_default-number_name : goal.returns-in_default-number_name
+returns-in_default-number_name c = λ before nexts outputs held. absurd (not_full before _ _ _ nexts outputs _ held _ _ (c.count_reset.ensures before _ held.counted) _ c.in-Some.is _ _ _ (c.number_name.ensures _ held.named (sym held.many)) c.in_default-number_name.is)
 
-pub returns-in-At : goal.returns-in-At
-returns-in-At c = λ before nexts outputs held. reset_goes before _ _ _ nexts outputs _ held _ _ (c.count_reset.ensures before _ held.counted) _ c.in-Goes.is _ _ _ (c.number_name.ensures _ held.named (sym held.many)) _ _ c.in-At.is _ _ c.give_rank.ensures.0
+pub returns : goal.returns
+returns c = λ before nexts outputs held. reset_goes before _ _ _ nexts outputs _ held _ _ (c.count_reset.ensures before _ held.counted) _ c.in-Some.is _ _ _ (c.number_name.ensures _ held.named (sym held.many)) _ _ c.in-Some-number_name.is _ _ c.give_rank.ensures.0

@@ -11,28 +11,19 @@ pub number_both-requires-clause-some_names : goal.number_both-requires-clause-so
 number_both-requires-clause-some_names c = let f = c.requires.term_fields in let v = c.requires.some_said in record { list = _; at = v.named; many = sym v.many }
 
 pub returns-then-not-allows-clause-named_term_as : goal.returns-then-not-allows-clause-named_term_as
-returns-then-not-allows-clause-named_term_as c = let f = c.requires.term_fields in let v = c.requires.some_said in λ before nexts outputs ranks held. too_many _ before _ held.counted _ f _ (c.count_term.ensures before _ held.counted (field_long f.cube_in ∙ sym c.size.ensures) (field_long f.output_in ∙ sym c.size-2.ensures)) _ c.in-Goes.is _ _ _ (c.number_both.ensures _ held.named (sym held.many)) _ _ _ c.in-At.is _ c.allows.ensures (ap not c.if-not-allows.true)
+returns-then-not-allows-clause-named_term_as c = let f = c.requires.term_fields in let v = c.requires.some_said in λ before nexts outputs ranks held. too_many _ before _ held.counted _ f _ (c.count_term.ensures before _ held.counted (field_long f.cube_in ∙ sym c.size.ensures) (field_long f.output_in ∙ sym c.size-2.ensures)) _ c.in_ok-counts.was _ _ _ (c.number_both.ensures _ held.named (sym held.many)) _ _ _ c.in_ok-current.was _ c.allows.ensures (ap not c.if-not-allows.true)
 
-pub returns-then-not-allows-clause-ready : goal.returns-then-not-allows-clause-ready
-returns-then-not-allows-clause-ready c = let f = c.requires.term_fields in let v = c.requires.some_said in record { told = tt }
+pub output_value-output-requires : goal.output_value-output-requires
+output_value-output-requires c = let f = c.requires.term_fields in let v = c.requires.some_said in output_in _ v.before _ v.counted _ f _ (c.count_term.ensures v.before _ v.counted (field_long f.cube_in ∙ sym c.size.ensures) (field_long f.output_in ∙ sym c.size-2.ensures)) _ c.in_ok-counts.was _ _ _ (c.number_both.ensures _ v.named (sym v.many)) _ _ _ c.in_ok-current.was _ c.allows.ensures (ap not c.if-not-allows.false)
 
-pub output_value-requires : goal.output_value-requires
-output_value-requires c = let f = c.requires.term_fields in let v = c.requires.some_said in output_in _ v.before _ v.counted _ f _ (c.count_term.ensures v.before _ v.counted (field_long f.cube_in ∙ sym c.size.ensures) (field_long f.output_in ∙ sym c.size-2.ensures)) _ c.in-Goes.is _ _ _ (c.number_both.ensures _ v.named (sym v.many)) _ _ _ c.in-At.is _ c.allows.ensures (ap not c.if-not-allows.false)
+pub returns-in_err-counts-clause-named_term_as : goal.returns-in_err-counts-clause-named_term_as
+returns-in_err-counts-clause-named_term_as c = let f = c.requires.term_fields in let v = c.requires.some_said in λ before nexts outputs ranks held. rw c.from_residual.ensures (term_misfits _ before _ held.counted _ f _ (c.count_term.ensures before _ held.counted (field_long f.cube_in ∙ sym c.size.ensures) (field_long f.output_in ∙ sym c.size-2.ensures)) c.in_err-counts.was _ _)
 
-pub returns-in-Bad-clause-named_term_as : goal.returns-in-Bad-clause-named_term_as
-returns-in-Bad-clause-named_term_as c = let f = c.requires.term_fields in let v = c.requires.some_said in λ before nexts outputs ranks held. term_misfits _ before _ held.counted _ f _ (c.count_term.ensures before _ held.counted (field_long f.cube_in ∙ sym c.size.ensures) (field_long f.output_in ∙ sym c.size-2.ensures)) c.in-Bad.is _ _
+pub returns-in_err-current-clause-named_term_as : goal.returns-in_err-current-clause-named_term_as
+returns-in_err-current-clause-named_term_as c = let f = c.requires.term_fields in let v = c.requires.some_said in λ before nexts outputs ranks held. rw c.from_residual-in_err-current.ensures (no_room _ before _ held.counted _ f _ (c.count_term.ensures before _ held.counted (field_long f.cube_in ∙ sym c.size.ensures) (field_long f.output_in ∙ sym c.size-2.ensures)) _ c.in_ok-counts.was _ _ _ (c.number_both.ensures _ held.named (sym held.many)) c.in_err-current.was)
 
-pub returns-in-Bad-clause-ready : goal.returns-in-Bad-clause-ready
-returns-in-Bad-clause-ready c = let f = c.requires.term_fields in let v = c.requires.some_said in record { told = tt }
+pub returns-clause-named_term_as : goal.returns-clause-named_term_as
+returns-clause-named_term_as c = let f = c.requires.term_fields in let v = c.requires.some_said in λ before nexts outputs ranks held. term_named _ before _ held.counted _ f _ (c.count_term.ensures before _ held.counted (field_long f.cube_in ∙ sym c.size.ensures) (field_long f.output_in ∙ sym c.size-2.ensures)) _ c.in_ok-counts.was _ _ _ (c.number_both.ensures _ held.named (sym held.many)) _ _ _ c.in_ok-current.was _ c.allows.ensures (ap not c.if-not-allows.false) _ c.output_value-output.ensures
 
-pub returns-in-Full-clause-named_term_as : goal.returns-in-Full-clause-named_term_as
-returns-in-Full-clause-named_term_as c = let f = c.requires.term_fields in let v = c.requires.some_said in λ before nexts outputs ranks held. no_room _ before _ held.counted _ f _ (c.count_term.ensures before _ held.counted (field_long f.cube_in ∙ sym c.size.ensures) (field_long f.output_in ∙ sym c.size-2.ensures)) _ c.in-Goes.is _ _ _ (c.number_both.ensures _ held.named (sym held.many)) c.in-Full.is
-
-pub returns-in-Full-clause-ready : goal.returns-in-Full-clause-ready
-returns-in-Full-clause-ready c = let f = c.requires.term_fields in let v = c.requires.some_said in record { told = tt }
-
-pub returns-else-not-allows-clause-named_term_as : goal.returns-else-not-allows-clause-named_term_as
-returns-else-not-allows-clause-named_term_as c = let f = c.requires.term_fields in let v = c.requires.some_said in λ before nexts outputs ranks held. term_named _ before _ held.counted _ f _ (c.count_term.ensures before _ held.counted (field_long f.cube_in ∙ sym c.size.ensures) (field_long f.output_in ∙ sym c.size-2.ensures)) _ c.in-Goes.is _ _ _ (c.number_both.ensures _ held.named (sym held.many)) _ _ _ c.in-At.is _ c.allows.ensures (ap not c.if-not-allows.false) _ c.output_value.ensures
-
-pub returns-else-not-allows-clause-ready : goal.returns-else-not-allows-clause-ready
-returns-else-not-allows-clause-ready c = let f = c.requires.term_fields in let v = c.requires.some_said in term_ready _ v.before _ v.counted _ f _ (c.count_term.ensures v.before _ v.counted (field_long f.cube_in ∙ sym c.size.ensures) (field_long f.output_in ∙ sym c.size-2.ensures)) _ c.in-Goes.is _ _ _ (c.number_both.ensures _ v.named (sym v.many)) _ _ _ c.in-At.is _ c.allows.ensures (ap not c.if-not-allows.false) _
+pub returns-clause-ready : goal.returns-clause-ready
+returns-clause-ready c = let f = c.requires.term_fields in let v = c.requires.some_said in term_ready _ v.before _ v.counted _ f _ (c.count_term.ensures v.before _ v.counted (field_long f.cube_in ∙ sym c.size.ensures) (field_long f.output_in ∙ sym c.size-2.ensures)) _ c.in_ok-counts.was _ _ _ (c.number_both.ensures _ v.named (sym v.many)) _ _ _ c.in_ok-current.was _ c.allows.ensures (ap not c.if-not-allows.false) _

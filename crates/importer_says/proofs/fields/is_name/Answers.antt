@@ -1,11 +1,14 @@
-use borrow.Author.Tests.{not-true, not-false}
-use Rattle.importer_says.proofs.Bytes.{name_long, name_read}
-use Rattle.std.proofs.Common.{ap}
-use Rattle.std.specs.Prelude.{not}
+use Rattle.std.proofs.Common.{rules, sym, ◌∙◌}
+use Rattle.std.proofs.lemmas.Iterator.{YieldsList-from_slice}
+use Rattle.std.proofs.lemmas.Iterator.Search.{all_from_yields_List}
+use borrow.Author.Tests.{tests}
+use Rattle.std.proofs.Common.{◌≡◌, true}
+use Rattle.std.specs.Prelude.{leb, ◌&&◌, length}
+use Rattle.rules.specs.Sizes.{counts}
+use Rattle.importer_says.proofs.Bytes.{all_pass}
 use Rattle.importer_says.proofs.fields.is_name.Goals as goal
 
-pub returns-then-not-in_range : goal.returns-then-not-in_range
-returns-then-not-in_range c = name_long c.args.field.now c.in_range.ensures (not-true _ (ap not c.if-not-in_range.true))
-
-pub returns : goal.returns
-returns c = name_read c.args.field.now c.in_range.ensures (not-false _ (ap not c.if-not-in_range.false)) c.is_all.ensures
+pub returns-then-in_range : goal.returns-then-in_range
+returns-then-in_range c =
+    let e : counts 16 (length c.args.field.now) ≡ true = sym c.in_range.ensures ∙ c.if-in_range.true in
+    rw e (all_from_yields_List (λ y. leb 33 y && leb y 126) _ _ _ c.all.ensures.ran (YieldsList-from_slice c.args.field.now cc) (λ x b q k. search (rules, tests)) ∙ all_pass (λ y. leb 33 y && leb y 126) c.args.field.now)

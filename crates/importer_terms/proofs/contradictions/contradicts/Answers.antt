@@ -14,12 +14,6 @@ is_against-requires-clause-nexts_len c = c.requires.nexts_len
 pub returns-then-is_against : goal.returns-then-is_against
 returns-then-is_against c = λ names bits terms t at over as-term. against_found _ _ _ _ names bits terms t at over as-term _ _ c.numbered.ensures (omega (arith, c.loop-i-test.true)) _ c.is_against.ensures c.if-is_against.true
 
-pub overflow_add-i : goal.overflow_add-i
-overflow_add-i c = omega (arith, c.loop-i-test.true)
-
-pub loop-i-smaller : goal.loop-i-smaller
-loop-i-smaller c = omega (arith, c.loop-i-test.true)
-
 pub loop-i-preserved : goal.loop-i-preserved
 loop-i-preserved c = against_next _ _ _ _ _ c.loop-i.invariant _ c.numbered.ensures _ c.is_against.ensures c.if-is_against.false
 

@@ -14,17 +14,8 @@ weight-requires c = c.requires.short
 pub returns-then-weight-number : goal.returns-then-weight-number
 returns-then-weight-number c = rw c.number-number.ensures at (too_wide c.args.text.now _ _ c.requires.field_in.some_byte c.requires.field_in.inside c.number-number.result c.requires.is_cube (omega (arith, c.weight.ensures, c.if-weight-number.true)))
 
-pub overflow_sub-last : goal.overflow_sub-last
-overflow_sub-last c = omega (arith, c.requires.field_in.some_byte)
-
 pub loop-at-init : goal.loop-at-init
 loop-at-init c = fitting_start c.args.text.now _ _ c.requires.field_in.some_byte c.requires.field_in.inside _
-
-pub overflow_sub-behind : goal.overflow_sub-behind
-overflow_sub-behind c = omega (arith, c.loop-at-test.true, c.loop-at.invariant.low)
-
-pub bounds-text-at : goal.bounds-text-at
-bounds-text-at c = omega (arith, c.loop-at-test.true, c.requires.field_in.inside)
 
 pub bit_of-requires : goal.bit_of-requires
 bit_of-requires c = omega (arith, c.loop-at-test.true, c.loop-at.invariant.low, c.requires.short)
@@ -34,12 +25,6 @@ fits-requires c = c.bit_of.ensures.1
 
 pub returns-then-not-fits : goal.returns-then-not-fits
 returns-then-not-fits c = rw c.number-number.ensures at (fitting_stops c.args.text.now _ _ c.requires.field_in.some_byte c.requires.field_in.inside _ _ c.loop-at.invariant c.loop-at-test.true _ _ c.bit_of.ensures.0 (omega arith) _ c.fits.ensures c.requires.is_cube (not-true _ (ap not c.if-not-fits.true)))
-
-pub overflow_add-at : goal.overflow_add-at
-overflow_add-at c = omega (arith, c.loop-at-test.true, c.requires.field_in.inside)
-
-pub loop-at-smaller : goal.loop-at-smaller
-loop-at-smaller c = omega (arith, c.loop-at-test.true)
 
 pub loop-at-preserved : goal.loop-at-preserved
 loop-at-preserved c = fitting_next c.args.text.now _ _ c.requires.field_in.some_byte c.requires.field_in.inside _ _ c.loop-at.invariant c.loop-at-test.true _ _ c.bit_of.ensures.0 (omega arith) _ c.fits.ensures (not-false _ (ap not c.if-not-fits.false))

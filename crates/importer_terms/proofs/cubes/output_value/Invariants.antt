@@ -1,9 +1,6 @@
-use Prim.Native.Nat.{◌-◌}
+use Rattle.std.proofs.Common.{◌+◌}
 use Rattle.importer_terms.proofs.Bits.{Valued}
 use Rattle.importer_terms.proofs.cubes.output_value.Given as goal
 
-abbrev pub invariant-loop-at : goal.invariant-loop-at
-invariant-loop-at l = Valued l.text l.initial.at l.end l.at l.value
-
-abbrev pub decreases-loop-at : goal.decreases-loop-at
-decreases-loop-at l = l.end - l.at
+abbrev pub invariant-loop-byte : goal.invariant-loop-byte
+invariant-loop-byte l = Valued l.text l.fn.output.start l.fn.output.end (l.fn.output.start + l.byte-index) l.value

@@ -12,20 +12,8 @@ put_entry-requires-clause-term_in c = (c.requires.term_in, omega (arith, c.numbe
 pub put_entry-requires-clause-nexts_len : goal.put_entry-requires-clause-nexts_len
 put_entry-requires-clause-nexts_len c = (c.loop-i.invariant.nexts_put.long ∙ c.requires.nexts_len.0, c.loop-i.invariant.outputs_put.long ∙ c.requires.nexts_len.1)
 
-pub overflow_add-i : goal.overflow_add-i
-overflow_add-i c = omega (arith, c.loop-i-test.true)
-
-pub loop-i-smaller : goal.loop-i-smaller
-loop-i-smaller c = omega (arith, c.loop-i-test.true)
-
 pub loop-i-preserved : goal.loop-i-preserved
 loop-i-preserved c = putting_next _ _ _ _ _ _ _ c.loop-i.invariant c.requires.nexts_len.0 c.requires.nexts_len.1 c.requires.term_in.current (omega (arith, c.loop-i-test.true)) _ c.numbered.ensures _ _ c.put_entry.ensures.nexts_after c.put_entry.ensures.outputs_after
-
-pub shape_of-nexts : goal.shape_of-nexts
-shape_of-nexts c = c.loop-i.invariant.nexts_put.long
-
-pub shape_of-outputs : goal.shape_of-outputs
-shape_of-outputs c = c.loop-i.invariant.outputs_put.long
 
 pub returns : goal.returns
 returns c = λ names bits terms t at as-term. entries_put _ _ _ _ names bits terms t at as-term _ _ _ c.loop-i.invariant (omega (arith, c.loop-i-test.false))

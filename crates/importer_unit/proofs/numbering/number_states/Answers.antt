@@ -4,7 +4,7 @@ use Rattle.importer_unit.proofs.Inverse.{inverting_start, inverting_next, invert
 use Rattle.importer_unit.proofs.numbering.number_states.Goals as goal
 
 pub loop-j-init : goal.loop-j-init
-loop-j-init c = (omega arith, inverting_start _)
+loop-j-init c = inverting_start _
 
 pub overflow_cast-numbers : goal.overflow_cast-numbers
 overflow_cast-numbers c = omega (arith, c.loop-j-test.true, c.requires.few)
@@ -16,16 +16,10 @@ pub overflow_sub-ranks : goal.overflow_sub-ranks
 overflow_sub-ranks c = c.requires.some_rank _ c.loop-j-test.true
 
 pub bounds-numbers-wide : goal.bounds-numbers-wide
-bounds-numbers-wide c = omega (arith, c.wide.ensures.0, c.requires.low _ c.loop-j-test.true, c.requires.some_rank _ c.loop-j-test.true, c.loop-j.invariant.1.room)
-
-pub overflow_add-j : goal.overflow_add-j
-overflow_add-j c = omega (arith, c.loop-j-test.true)
-
-pub loop-j-smaller : goal.loop-j-smaller
-loop-j-smaller c = omega (arith, c.loop-j-test.true)
+bounds-numbers-wide c = omega (arith, c.wide.ensures.0, c.requires.low _ c.loop-j-test.true, c.requires.some_rank _ c.loop-j-test.true, c.loop-j.invariant.room)
 
 pub loop-j-preserved : goal.loop-j-preserved
-loop-j-preserved c = (omega (arith, c.loop-j-test.true), inverting_next _ _ c.requires _ _ c.loop-j.invariant.1 c.loop-j-test.true _ _ c.wide.ensures.0 refl)
+loop-j-preserved c = inverting_next _ _ c.requires _ _ c.loop-j.invariant c.loop-j-test.true _ _ c.wide.ensures.0 refl
 
 pub returns : goal.returns
-returns c = λ names order is ranking. inverting_end _ _ c.requires _ _ c.loop-j.invariant.1 (omega (arith, c.loop-j-test.false, c.loop-j.invariant.0)) names order is ranking
+returns c = λ names order is ranking. inverting_end _ _ c.requires _ _ c.loop-j.invariant (omega (arith, c.loop-j-test.false)) names order is ranking

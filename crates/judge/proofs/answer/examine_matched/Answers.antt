@@ -9,13 +9,13 @@ pub find_deviating-requires-clause-served : goal.find_deviating-requires-clause-
 find_deviating-requires-clause-served c = served c.requires
 
 pub overflow_add-result : goal.overflow_add-result
-overflow_add-result c = omega (arith, deviating_whole c.requires _ c.find_deviating.ensures _ _ _ c.in-At.is)
+overflow_add-result c = omega (arith, deviating_whole c.requires _ c.find_deviating.ensures _ _ _ c.in-Some.is)
 
 pub word_length-requires : goal.word_length-requires
-word_length-requires c = deviating_whole c.requires _ c.find_deviating.ensures _ _ _ c.in-At.is
+word_length-requires c = deviating_whole c.requires _ c.find_deviating.ensures _ _ _ c.in-Some.is
 
-pub returns-in-Nowhere : goal.returns-in-Nowhere
-returns-in-Nowhere c = examined_agrees c.requires _ c.find_deviating.ensures c.in-Nowhere.is
+pub returns-in-None : goal.returns-in-None
+returns-in-None c = examined_agrees c.requires _ c.find_deviating.ensures c.in-None.is
 
-pub returns-in-At : goal.returns-in-At
-returns-in-At c = examined_deviates c.requires _ c.find_deviating.ensures _ _ _ c.in-At.is _ c.word_length.ensures.0
+pub returns-in-Some : goal.returns-in-Some
+returns-in-Some c = examined_deviates c.requires _ c.find_deviating.ensures _ _ _ c.in-Some.is _ c.word_length.ensures.0

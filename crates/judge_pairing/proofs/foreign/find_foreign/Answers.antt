@@ -1,7 +1,5 @@
-use Prim.Native.Nat.{◌-◌}
 use mathlib.Core.Bool.{not}
 use borrow.Author.Tests.{not-true, not-false}
-use Rattle.reader.specs.Places.{records_at}
 use Rattle.judge_records.proofs.Standing.{records_begin, record_whole, records_next, record_scan_begin}
 use Rattle.judge_pairing.proofs.Pairs.{foreign-found, foreign_next, foreign_end}
 use Rattle.std.proofs.Common.{ap}

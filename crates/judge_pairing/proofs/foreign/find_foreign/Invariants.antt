@@ -1,4 +1,3 @@
-use Prim.Native.Nat.{◌-◌}
 use mathlib.Core.List.{List}
 use mathlib.Core.Bool.{not}
 use Rattle.rules.specs.Words.{Word, is_in}
@@ -9,7 +8,4 @@ use Rattle.judge_records.proofs.Standing.{RecordsLeft, RecordScan}
 use Rattle.judge_pairing.proofs.foreign.find_foreign.Given as goal
 
 abbrev pub invariant-loop-i : goal.invariant-loop-i
-invariant-loop-i l = RecordsLeft l.sheet l.place l.inputs l.count l.i l.at × ((tests : List Word) → Knowing tests (words_of (records_at l.sheet l.place l.count)) l.label l.first l.next l.marks → RecordScan (λ (i, r). not (is_in r.word tests)) l.sheet l.place l.count l.i l.at)
-
-abbrev pub decreases-loop-i : goal.decreases-loop-i
-decreases-loop-i l = l.count - l.i
+invariant-loop-i l = RecordsLeft l.sheet l.place l.inputs l.count l.i l.at × ((tests : List Word) → Knowing tests (words_of (records_at l.sheet l.place l.count)) l.nodes.label.now l.nodes.first.now l.nodes.next.now l.marks → RecordScan (λ (i, r). not (is_in r.word tests)) l.sheet l.place l.count l.i l.at)

@@ -4,9 +4,6 @@ use Rattle.line.proofs.ran.write_verdict.Goals as goal
 pub write_failing-requires-clause-failing_at : goal.write_failing-requires-clause-failing_at
 write_failing-requires-clause-failing_at c = failing_at _ _ _ c.try_unit.ensures _ _ c.requires.accepted_at c.requires.unit_at _ _ c.in-Fails.is
 
-pub write_failing-requires-clause-line_room_in_bounds : goal.write_failing-requires-clause-line_room_in_bounds
-write_failing-requires-clause-line_room_in_bounds c = c.requires.line_room_in_bounds
-
 pub returns-in-Passes : goal.returns-in-Passes
 returns-in-Passes c = rw (← (passes_line_lem _ _ _ c.try_unit.ensures _ c.in-Passes.is)) c.write_passes.ensures
 

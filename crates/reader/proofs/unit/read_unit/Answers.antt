@@ -1,11 +1,7 @@
-use Rattle.reader.proofs.Joined.{unit_long, unit_sizes, unit_stopped}
+use Rattle.std.proofs.Common.{rules}
+use Rattle.reader.proofs.Joined.{file_is, unit_long, unit_short}
 use Rattle.reader.proofs.unit.read_unit.Goals as goal
 
-pub returns-then-bytes-gt-MOST_UNIT_BYTES : goal.returns-then-bytes-gt-MOST_UNIT_BYTES
-returns-then-bytes-gt-MOST_UNIT_BYTES c = unit_long c.args.bytes.now c.if-bytes-gt-MOST_UNIT_BYTES.true
-
-pub returns-in-Are : goal.returns-in-Are
-returns-in-Are c = unit_sizes c.args.bytes.now c.if-bytes-gt-MOST_UNIT_BYTES.false _ c.sizes_at.ensures _ _ _ _ c.in-Are.is c.from_table.ensures
-
-pub returns-in-Stopped : goal.returns-in-Stopped
-returns-in-Stopped c = unit_stopped c.args.bytes.now c.if-bytes-gt-MOST_UNIT_BYTES.false _ c.sizes_at.ensures _ _ c.in-Stopped.is
+pub returns : goal.returns
+returns c =
+    file_is _ _ _ _ _ _ c.read_file.ensures.long (λ h. let x = c.read_file.ensures.short h in (x.0, search rules, x.2)) (unit_long c.args.bytes.now) (unit_short c.args.bytes.now)

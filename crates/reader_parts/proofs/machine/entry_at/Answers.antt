@@ -1,11 +1,17 @@
-use Rattle.reader_parts.proofs.Parts.{entry_read, entry_bad, entry_cut}
+use Rattle.std.proofs.Common.{◌∙◌, sym, rules}
+use lib.Dec.{ltb}
+use Rattle.rules.specs.Reading.{entry}
+use Rattle.reader_steps.proofs.Laws.{cut}
+use Rattle.reader_parts.proofs.Parts.{the_state, step_map}
 use Rattle.reader_parts.proofs.machine.entry_at.Goals as goal
 
-pub returns-then-state-states : goal.returns-then-state-states
-returns-then-state-states c = entry_read _ _ _ _ c.byte_at.ensures _ _ _ c.in-Byte.is c.if-state-states.true c.output_at.ensures
+pub returns-in_err-output : goal.returns-in_err-output
+unfolding entry
+returns-in_err-output c =
+    cut _ _ _ _ _ _ c.from_residual.ensures.1 (c.in_err-output.ensures (λ i. ltb i c.args.states) (λ i said small post. search rules))
 
-pub returns-else-state-states : goal.returns-else-state-states
-returns-else-state-states c = entry_bad _ _ _ _ c.byte_at.ensures _ _ c.in-Byte.is c.if-state-states.false
-
-pub returns-in-Stopped : goal.returns-in-Stopped
-returns-in-Stopped c = entry_cut _ _ _ _ c.byte_at.ensures _ _ c.in-Stopped.is
+pub returns : goal.returns
+unfolding entry
+returns c =
+    rw (the_state _ _ _ _ _ (c.in_ok-output.ensures (λ i. ltb i c.args.states) (λ i said small post. search rules)))
+    (c.output_at.ensures ∙ sym (step_map _ _))

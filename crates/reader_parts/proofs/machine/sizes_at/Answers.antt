@@ -1,11 +1,21 @@
-use Rattle.reader_parts.proofs.Parts.{sizes_read_lem, sizes_bad, sizes_cut}
+use Rattle.reader_steps.proofs.Laws.{cut}
+use Rattle.reader_parts.specs.Numbers.{sizes}
+use Rattle.reader_parts.proofs.Parts.{the_expected, the_number, sizes_read_lem}
 use Rattle.reader_parts.proofs.machine.sizes_at.Goals as goal
 
-pub returns-then-count-expected : goal.returns-then-count-expected
-returns-then-count-expected c = sizes_read_lem _ _ _ _ c.count_at.ensures _ _ _ c.in-Count.is c.if-count-expected.true c.inputs_and_states_at.ensures
+pub returns-in_err-first : goal.returns-in_err-first
+unfolding sizes
+returns-in_err-first c = cut _ _ _ _ _ _ c.from_residual.ensures.1 c.in_err-first.ensures
 
-pub returns-else-count-expected : goal.returns-else-count-expected
-returns-else-count-expected c = sizes_bad _ _ _ _ c.count_at.ensures _ _ c.in-Count.is c.if-count-expected.false
+pub returns-in_err-inputs : goal.returns-in_err-inputs
+unfolding sizes
+returns-in_err-inputs c = let x = the_expected _ _ _ _ tt _ c.in_ok-first.ensures in
+    rw x.1 (cut _ _ _ _ _ _ c.from_residual-in_err-inputs.ensures.1 c.in_err-inputs.ensures)
 
-pub returns-in-Stopped : goal.returns-in-Stopped
-returns-in-Stopped c = sizes_cut _ _ _ _ c.count_at.ensures _ _ c.in-Stopped.is
+pub returns-in_err-states : goal.returns-in_err-states
+unfolding sizes
+returns-in_err-states c = let x = the_expected _ _ _ _ tt _ c.in_ok-first.ensures in
+    rw (x.1, the_number _ _ _ _ _ c.in_ok-inputs.ensures) (cut _ _ _ _ _ _ c.from_residual-in_err-states.ensures.1 c.in_err-states.ensures)
+
+pub returns : goal.returns
+returns c = sizes_read_lem _ _ _ _ _ _ _ _ c.in_ok-first.ensures c.in_ok-inputs.ensures c.in_ok-states.ensures

@@ -1,11 +1,21 @@
-use Rattle.reader_parts.proofs.Parts.{record_read, record_stopped, record_cut}
+use Rattle.std.proofs.Common.{ℕ, ◌∙◌, sym}
+use Rattle.rules.specs.Reading.{word, sheet_record}
+use Rattle.rules.specs.Words.{Word}
+use Rattle.reader_steps.proofs.Laws.{cut, cut_in}
+use Rattle.reader_steps.proofs.Sections.{the_length, the_word}
+use Rattle.reader_parts.proofs.Parts.{step_map}
 use Rattle.reader_parts.proofs.records.record_at.Goals as goal
 
-pub returns-in-Next : goal.returns-in-Next
-returns-in-Next c = record_read _ _ _ _ c.length_at.ensures _ _ c.in-Byte.is _ c.inputs_at.ensures _ _ c.in-Next.is c.outputs_at.ensures
+pub returns-in_err-length : goal.returns-in_err-length
+unfolding sheet_record word
+returns-in_err-length c = cut (λ (w : Word) (q : ℕ). q) _ _ _ _ _ c.from_residual.ensures.1 (cut_in _ _ _ _ _ c.in_err-length.ensures)
 
-pub returns-in-Stopped-inputs_at : goal.returns-in-Stopped-inputs_at
-returns-in-Stopped-inputs_at c = record_stopped _ _ _ _ c.length_at.ensures _ _ c.in-Byte.is _ c.inputs_at.ensures _ _ c.in-Stopped-inputs_at.is
+pub returns-in_err-outputs : goal.returns-in_err-outputs
+unfolding sheet_record word
+returns-in_err-outputs c =
+    rw (the_length _ _ _ _ _ c.in_ok-length.ensures) (cut _ _ _ _ _ _ c.from_residual-in_err-outputs.ensures.1 c.in_err-outputs.ensures)
 
-pub returns-in-Stopped : goal.returns-in-Stopped
-returns-in-Stopped c = record_cut _ _ _ _ c.length_at.ensures _ _ c.in-Stopped.is
+pub returns : goal.returns
+unfolding sheet_record
+returns c = let (w, long, read) = the_word _ _ _ _ _ _ _ c.in_ok-length.ensures c.in_ok-outputs.ensures in
+    rw (read, long) (c.outputs_at.ensures ∙ sym (step_map _ _))

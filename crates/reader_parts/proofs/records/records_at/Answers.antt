@@ -1,17 +1,11 @@
-use mathlib.Core.Path.{sym, ◌∙◌}
-use Rattle.reader_steps.proofs.Laws.{keeps, many_next, many_stopped, many_done}
+use Rattle.std.proofs.Common.{◌∙◌, rules}
 use Rattle.rules.specs.Reading.{sheet_record}
 use Rattle.theory.specs.Sections.{reads_record}
+use Rattle.reader_steps.specs.Steps.{stepping}
+use Rattle.reader_steps.proofs.Laws.{keeps, repeated_many}
 use Rattle.reader_parts.proofs.records.records_at.Goals as goal
 
-pub loop-left-preserved : goal.loop-left-preserved
-loop-left-preserved c = let a = c.args in
-    c.loop-left.invariant ∙ many_next (sheet_record a.inputs) _ _ _ _ _ c.loop-left-test.true (keeps (reads_record a.inputs) a.bytes.now) c.record_at.ensures c.in-Next.is
-
-pub returns-in-Stopped : goal.returns-in-Stopped
-returns-in-Stopped c = let a = c.args in
-    sym (c.loop-left.invariant ∙ many_stopped (sheet_record a.inputs) _ _ _ _ _ _ c.loop-left-test.true c.record_at.ensures c.in-Stopped.is)
-
 pub returns : goal.returns
-returns c = let a = c.args in
-    sym (c.loop-left.invariant ∙ many_done (sheet_record a.inputs) _ _ _ c.loop-left-test.false)
+returns c = let s = c.args.bytes.now in
+    let one = sheet_record c.args.inputs in
+    c.repeat.ensures (stepping one s) (λ q r small post. search rules) ∙ repeated_many one s (keeps (reads_record c.args.inputs) s) _ _

@@ -1,13 +1,14 @@
-use Rattle.reader_steps.proofs.Laws.{count_read_lem, count_cut, count_cut_later}
+use Rattle.rules.specs.Reading.{count}
+use Rattle.reader_steps.proofs.Laws.{cut, the_byte, count_read_lem}
 use Rattle.reader_steps.proofs.steps.count_at.Goals as goal
 
-pub returns-in-Byte-byte_at : goal.returns-in-Byte-byte_at
-returns-in-Byte-byte_at c = let low = c.wide.ensures.0 in
-    let high = c.wide-in-Byte-byte_at.ensures.0 in
-    rw (low, high) (count_read_lem _ _ _ c.byte_at.ensures _ _ c.in-Byte.is _ c.byte_at-in-Byte.ensures _ _ c.in-Byte-byte_at.is)
+pub returns-in_err-low : goal.returns-in_err-low
+unfolding count
+returns-in_err-low c = cut _ _ _ _ _ _ c.from_residual.ensures.1 c.in_err-low.ensures
 
-pub returns-in-Stopped-byte_at : goal.returns-in-Stopped-byte_at
-returns-in-Stopped-byte_at c = count_cut_later _ _ _ c.byte_at.ensures _ _ c.in-Byte.is _ c.byte_at-in-Byte.ensures _ _ c.in-Stopped-byte_at.is
+pub returns-in_err-high : goal.returns-in_err-high
+unfolding count
+returns-in_err-high c = rw (the_byte _ _ _ _ c.in_ok-low.ensures) (cut _ _ _ _ _ _ c.from_residual-in_err-high.ensures.1 c.in_err-high.ensures)
 
-pub returns-in-Stopped : goal.returns-in-Stopped
-returns-in-Stopped c = count_cut _ _ _ c.byte_at.ensures _ _ c.in-Stopped.is
+pub returns : goal.returns
+returns c = rw (c.wide.ensures.0, c.wide-2.ensures.0) (count_read_lem _ _ _ _ _ _ c.in_ok-low.ensures c.in_ok-high.ensures)

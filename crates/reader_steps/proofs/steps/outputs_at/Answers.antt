@@ -1,13 +1,8 @@
-use mathlib.Core.Path.{refl, sym, ◌∙◌}
+use Rattle.std.proofs.Common.{◌∙◌, rules}
 use Rattle.rules.specs.Reading.{output}
-use Rattle.reader_steps.proofs.Laws.{kept_output, output_here, output_none, many_next, many_stopped, many_done}
+use Rattle.reader_steps.specs.Steps.{stepping}
+use Rattle.reader_steps.proofs.Laws.{kept_output, repeated_many}
 use Rattle.reader_steps.proofs.steps.outputs_at.Goals as goal
 
-pub returns-then-bytes-p : goal.returns-then-bytes-p
-returns-then-bytes-p c = sym (c.loop-left.invariant ∙ many_stopped output _ _ _ _ _ _ c.loop-left-test.true (output_none _ _ c.if-bytes-p.true) refl)
-
-pub loop-left-preserved : goal.loop-left-preserved
-loop-left-preserved c = c.loop-left.invariant ∙ many_next output _ _ _ _ _ c.loop-left-test.true (kept_output c.args.bytes.now) (output_here _ _ c.if-bytes-p.false) refl
-
 pub returns : goal.returns
-returns c = sym (c.loop-left.invariant ∙ many_done output _ _ _ c.loop-left-test.false)
+returns c = let s = c.args.bytes.now in rw (← c.wide.ensures.0) (c.repeat.ensures (stepping output s) (λ q r small post. search rules) ∙ repeated_many output s (kept_output s) _ _)

@@ -1,27 +1,28 @@
-use native.Mathlib.Omega.{arith}
-use native.Mathlib.Nat.{zero-add}
-use mathlib.Core.Path.{sym}
-use Rattle.reader.specs.Turns.{word_turn, word_room, words_after}
+use Rattle.std.proofs.Common.{arith, sym}
+use native.Mathlib.Nat.{sub-zero, zero-add}
+use Rattle.walker.proofs.Turns.{turn}
 use Rattle.runner.proofs.Sums.{sum_next, sum_end}
 use Rattle.runner.proofs.costing.sum_lengths.Goals as goal
 
-pub loop-left-init : goal.loop-left-init
-loop-left-init c = (c.requires, omega arith, sym (zero-add _))
+pub loop-init : goal.loop-init
+loop-init c = record { stand = rw (sub-zero c.args.count) c.requires; small = omega arith; so_far = rw (sub-zero c.args.count) (sym (zero-add _)) }
 
-pub word_length-n-requires : goal.word_length-n-requires
-word_length-n-requires c = (word_turn _ _ _ _ c.loop-left-test.true c.loop-left.invariant.0).here.inside
+pub word_length-sum-requires : goal.word_length-sum-requires
+word_length-sum-requires c = (turn _ _ _ _ _ c.loop-test.true c.loop.invariant.stand).here.inside
 
 pub overflow_add-sum : goal.overflow_add-sum
-overflow_add-sum c = let h = word_room _ _ _ _ _ c.loop-left-test.true c.loop-left.invariant.0 c.word_length-n.ensures.1 in omega (arith, c.loop-left.invariant.1)
+overflow_add-sum c = let h = (turn _ _ _ _ _ c.loop-test.true c.loop.invariant.stand).here.inside in omega (arith, c.word_length-sum.ensures.1)
 
-pub overflow_add-word : goal.overflow_add-word
-overflow_add-word c = let h = word_room _ _ _ _ _ c.loop-left-test.true c.loop-left.invariant.0 c.word_length-n.ensures.1 in omega arith
+pub word_end-word-requires : goal.word_end-word-requires
+word_end-word-requires c = (turn _ _ _ _ _ c.loop-test.true c.loop.invariant.stand).here.inside
 
-pub overflow_add-word-in-loop-left : goal.overflow_add-word-in-loop-left
-overflow_add-word-in-loop-left c = let h = word_room _ _ _ _ _ c.loop-left-test.true c.loop-left.invariant.0 c.word_length-n.ensures.1 in omega arith
-
-pub loop-left-preserved : goal.loop-left-preserved
-loop-left-preserved c = (words_after _ _ _ _ _ c.loop-left-test.true c.loop-left.invariant.0 c.word_length-n.ensures.1, omega (arith, c.loop-left.invariant.1), sum_next _ _ _ _ _ c.loop-left.invariant.2 _ _ c.loop-left-test.true c.loop-left.invariant.0 c.word_length-n.ensures.0 c.word_length-n.ensures.1)
+pub loop-preserved : goal.loop-preserved
+loop-preserved c =
+    record {
+      stand = rw c.word_end-word.ensures.0 (turn _ _ _ _ _ c.loop-test.true c.loop.invariant.stand).rest;
+      small = omega (arith, c.word_length-sum.ensures.1, c.word_end-word.ensures.0);
+      so_far = sum_next _ _ _ _ _ _ c.loop.invariant.so_far _ _ _ c.loop-test.true c.loop.invariant.stand c.word_length-sum.ensures.0 c.word_end-word.ensures.0;
+    }
 
 pub returns : goal.returns
-returns c = sum_end _ _ _ _ _ c.loop-left.invariant.2 c.loop-left-test.false
+returns c = sum_end _ _ _ _ _ _ c.loop.invariant.so_far c.loop-test.false

@@ -5,10 +5,10 @@ use Rattle.runner.proofs.Running.{run_unchecked}
 use Rattle.runner.proofs.trial.run.Goals as goal
 
 pub try_unit-requires : goal.try_unit-requires
-try_unit-requires c = accepted_at _ _ c.accept.ensures _ c.in-Holds.is
+try_unit-requires c = accepted_at _ _ c.accept.ensures _ c.in-Ok.is
 
-pub returns-in-Holds : goal.returns-in-Holds
-returns-in-Holds c = ap run_says c.try_unit.ensures
+pub returns-in-Ok : goal.returns-in-Ok
+returns-in-Ok c = ap run_says c.try_unit.ensures
 
-pub returns-in-Refused : goal.returns-in-Refused
-returns-in-Refused c = run_unchecked _ _ c.accept.ensures _ _ c.in-Refused.is
+pub returns-in-Err : goal.returns-in-Err
+returns-in-Err c = run_unchecked _ _ c.accept.ensures _ _ c.in-Err.is

@@ -1,8 +1,0 @@
-use borrow.Author.Tests.{le-leb, lt-leb}
-use Rattle.importer_says.proofs.fields.in_range.Goals as goal
-
-pub returns-then-number-ge1 : goal.returns-then-number-ge1
-returns-then-number-ge1 c = rw (le-leb _ _ c.if-number-ge1.true)
-
-pub returns-else-number-ge1 : goal.returns-else-number-ge1
-returns-else-number-ge1 c = rw (lt-leb _ _ c.if-number-ge1.false)

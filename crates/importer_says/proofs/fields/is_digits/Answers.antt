@@ -1,0 +1,10 @@
+use Rattle.std.proofs.Common.{rules, ◌∙◌}
+use Rattle.std.proofs.lemmas.Iterator.{YieldsList-from_slice}
+use Rattle.std.proofs.lemmas.Iterator.Search.{all_from_yields_List}
+use borrow.Author.Tests.{tests}
+use Rattle.rules.specs.Kiss2.{is_digit}
+use Rattle.importer_says.proofs.Bytes.{all_pass}
+use Rattle.importer_says.proofs.fields.is_digits.Goals as goal
+
+pub returns : goal.returns
+returns c = all_from_yields_List is_digit _ _ _ c.all.ensures.ran (YieldsList-from_slice c.args.field.now cc) (λ x b q k. search (rules, tests)) ∙ all_pass is_digit c.args.field.now

@@ -1,8 +1,0 @@
-use Prim.Native.Nat.{◌≤◌, ◌-◌}
-use Rattle.soundness_apart.proofs.told_by_known.Given as goal
-
-abbrev pub invariant-loop-j : goal.invariant-loop-j
-invariant-loop-j l = l.j ≤ l.count
-
-abbrev pub decreases-loop-j : goal.decreases-loop-j
-decreases-loop-j l = l.count - l.j

@@ -1,2 +1,0 @@
-pub mod Alike
-pub mod Copied
