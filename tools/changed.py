@@ -13,7 +13,7 @@ from forms import CLAUSE, TOP, bare, braced, files, functions  # noqa: E402
 
 
 def heads(commit):
-    """The head of each function and each struct, enum and trait, by crate and name."""
+    """The head of each function and each struct, enum and trait with its derives, by crate and name."""
     found = {}
     for name, text in files(commit, r"crates/\w+/src/.*\.rt"):
         crate = name.split("/")[1]
@@ -25,25 +25,28 @@ def heads(commit):
             ends = [x for x in ((own.start() if own else None), (inline.end() - 1 if inline else None), (semicolon.start() if semicolon else None)) if x is not None and x > m.end()]
             head = text[m.start():min(ends)] if ends else text[m.start():m.end()]
             found.setdefault(("fn", crate, m.group(1)), []).append(" ".join(head.split()))
-        for m in re.finditer(r"^(?:pub )?(struct|enum|trait) (\w+)", text, re.M):
+        for m in re.finditer(r"^(?:#\[.*\]\s*\n)*(?:pub )?(struct|enum|trait) (\w+)", text, re.M):
             end = text.find("\n\n", m.start())
             found.setdefault((m.group(1), crate, m.group(2)), []).append(" ".join(text[m.start():end if end > 0 else len(text)].split()))
     return {k: " // ".join(sorted(v)) for k, v in found.items()}
 
 
 def statements(commit, part):
-    """What each name of an .antt file says: in specs/ its signature and clauses, in proofs/ its signature alone."""
+    """What each name of an .antt file says: a definition of specs/ with its clauses, a record with its fields, all else its signature alone."""
     found = {}
     for name, text in files(commit, part):
         crate, where = name.split("/")[1], name.split("/")[-1][:-5]
         text = re.sub(r"--.*", "", text)
-        starts = [(m.start(), m) for m in re.finditer(r"^[ \t]*(?:(?:abbrev|unfoldable) )?(?:pub )?(?:record )?([^\s:(){};,|]+) (?::|\().*", text, re.M)]
+        # only a record's or a data's name may have its parameters behind it: any other `name (..` begins an equation
+        starts = [(m.start(), m) for m in re.finditer(r"^([ \t]*)((?:abbrev|unfoldable) )?(?:pub )?(?:(record|data) (?=\S+ [:({])|(?=\S+ :))([^\s:(){};,|]+) .*", text, re.M)]
         for i, (at, m) in enumerate(starts):
-            word = m.group(1)
+            indent, defined, fields, word = m.groups()
             if word in ("module", "use", "let", "record", "where", "rw", "elim", "ap", "omega", "go", "×"):
                 continue
             said = text[at:starts[i + 1][0] if i + 1 < len(starts) else len(text)]
-            if "/proofs/" in name:
+            if fields:
+                said = re.split(r"\n[ \t]{0,%d}(?=\S)" % len(indent), text[at:], maxsplit=1)[0]
+            elif "/proofs/" in name or not defined:
                 said = re.split(r"\n[ \t]*(?:unfolding |" + re.escape(word) + r"(?=[\s=]))", said)[0]
             found[(crate, where, word)] = " ".join(said.split())
     return found

@@ -1,7 +1,6 @@
 -- Laws that tie what was found to the rules' compare.
 use Prim.Native.Nat.{ℕ}
-use native.Mathlib.Omega.{arith}
-use mathlib.Core.Path.{◌≡◌, refl, sym, ◌∙◌, subst}
+use mathlib.Core.Path.{◌≡◌, refl, sym, ap, ◌∙◌, subst}
 use mathlib.Core.Logic.{◌≢◌}
 use mathlib.Core.List.{List, [], ◌∷◌, ◌++◌}
 use mathlib.Core.Option.{Option, none, some}
@@ -24,7 +23,6 @@ use Rattle.reader.proofs.Held.{dossier_held, dossier_not_held, unit_held, unit_n
 use Rattle.theory.specs.Machines.{golden_complete}
 use Rattle.theory.proofs.Compare.{equal_none, telling_some}
 use Rattle.std.specs.Prelude.{Option as Answer, Some, None, Result, Ok, Err}
-use Rattle.comparer_pairs.specs.Pairs.{Comparable}
 use Rattle.comparer_pairs.specs.Queue.{word_to}
 use Rattle.comparer_search.specs.Search.{Tells, FoundOf}
 use Rattle.comparer.specs.Found.{FirstOrNone, Answers, AnswersFirst, Stand}
@@ -56,15 +54,6 @@ module _ (dossier unit_file : List ℕ) (x : DossierShape) (y : UnitShape) (stan
       rw (stand.reads, stand.ureads, ne_eqb d.inputs u.inputs ne) (refl, refl)
 
   module _ (same : x.inputs ≡ y.inputs) where
-    pub comparable : Comparable x.inputs y.inputs x.states y.states
-    comparable =
-        record {
-          same_inputs = same;
-          few_inputs = omega (arith, stand.stands.inputs, stand.stands.sized.golden.few_inputs);
-          few_states = omega (arith, stand.stands.states, stand.stands.sized.golden.few_states);
-          few_units = omega (arith, stand.ustands.states, stand.ustands.sized.machine.few_states);
-        }
-
     same_inputs : d.inputs ≡ u.inputs
     same_inputs = sym stand.stands.inputs ∙ same ∙ stand.ustands.inputs
 
@@ -72,8 +61,8 @@ module _ (dossier unit_file : List ℕ) (x : DossierShape) (y : UnitShape) (stan
     golden_is : machine_at dossier x.table x.inputs x.states ≡ golden d
     golden_is = λ i. machine_of (stand.stands.inputs i) (stand.stands.states i) (stand.stands.entries i)
 
-    unit_is : machine_at unit_file y.table y.inputs y.states ≡ unit u
-    unit_is = λ i. machine_of (stand.ustands.inputs i) (stand.ustands.states i) (stand.ustands.entries i)
+    unit_is : machine_at unit_file y.table x.inputs y.states ≡ unit u
+    unit_is = ap (λ k. machine_at unit_file y.table k y.states) same ∙ (λ i. machine_of (stand.ustands.inputs i) (stand.ustands.states i) (stand.ustands.entries i))
 
     whole : Complete d.inputs (golden d)
     whole = golden_complete stand.stands.sized.golden
@@ -86,14 +75,14 @@ module _ (dossier unit_file : List ℕ) (x : DossierShape) (y : UnitShape) (stan
     telling_is none alike = equal_none d.inputs (golden d) (unit u) whole uwhole alike
     telling_is (some w) first = telling_some d.inputs (golden d) (unit u) whole uwhole w first
 
-    pub first_answers : (k : ℕ) (G U : Machine) (out left : List ℕ) (r : Compared) → k ≡ x.inputs → G ≡ machine_at dossier x.table x.inputs x.states → U ≡ machine_at unit_file y.table y.inputs y.states
-        → AnswersFirst k G U out r left → ComparePromise dossier unit_file out r left
+    pub first_answers : (out left : List ℕ) (r : Compared) → AnswersFirst x.inputs (machine_at dossier x.table x.inputs x.states) (machine_at unit_file y.table x.inputs y.states) out r left
+        → ComparePromise dossier unit_file out r left
     unfolding compare
-    first_answers k G U out left r k_is G_is U_is a =
+    first_answers out left r a =
         let first : FirstOrNone d.inputs (golden d) (unit u) a.found =
-        subst (λ k. FirstOrNone k (golden d) (unit u) a.found) (k_is ∙ stand.stands.inputs)
-        (subst (λ G. FirstOrNone k G (unit u) a.found) (G_is ∙ golden_is)
-        (subst (λ U. FirstOrNone k G U a.found) (U_is ∙ unit_is) a.first)) in
+        subst (λ k. FirstOrNone k (golden d) (unit u) a.found) stand.stands.inputs
+        (subst (λ G. FirstOrNone x.inputs G (unit u) a.found) golden_is
+        (subst (λ U. FirstOrNone x.inputs (machine_at dossier x.table x.inputs x.states) U a.found) unit_is a.first)) in
         rw (stand.reads, stand.ureads, eq-eqb d.inputs u.inputs same_inputs, telling_is a.found first, a.answers.0, a.answers.1) (refl, refl)
 
 -- what the readers answered

@@ -1,6 +1,6 @@
 // The comparison (document 01, "Compare", and its refusals: the dossier's 1 to 6, the unit's 1 to 6, 15, 17).
 ghost use Rattle.rules.specs.Promises.{ComparePromise};
-ghost use Rattle.walker.specs.Machines.{machine_in};
+ghost use Rattle.comparer_pairs.specs.Sides.{golden_at, unit_at};
 ghost use Rattle.comparer.specs.Found.{AnswersFirst, Stand};
 
 use crate::spelling::write_telling;
@@ -8,11 +8,10 @@ use comparer_pairs::{Sides, no_entries};
 use comparer_search::search;
 use reader::{DossierShape, UnitShape, read_dossier, read_unit};
 use rules::{Compared, Refusal};
-use walker::Table;
 
 // The answer for two machines over the same inputs. EQUAL writes nothing.
 fn compare_sides(sides: &Sides<'_>, out: &mut [u8]) -> Compared
-    ensures { AnswersFirst sides.now.golden.inputs (machine_in sides.now.golden) (machine_in sides.now.unit) out.old result out.new }
+    ensures { AnswersFirst sides.now.inputs (golden_at sides.now) (unit_at sides.now) out.old result out.new }
 {
     let mut queue = no_entries();
     match search(sides, &mut queue) {
@@ -37,8 +36,13 @@ fn compare_read(
         return Compared::Refused(Refusal::OtherInputs);
     }
     let sides = Sides {
-        golden: Table::standing(dossier, x.table, x.inputs, x.states),
-        unit: Table::standing(unit, y.table, y.inputs, y.states),
+        dossier,
+        unit,
+        inputs,
+        table: x.table,
+        states: x.states,
+        utable: y.table,
+        units: y.states,
     };
     compare_sides(&sides, out)
 }

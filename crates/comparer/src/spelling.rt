@@ -10,8 +10,8 @@ use comparer_pairs::{input_at, parent_at};
 use rules::{Compared, Input, Refusal};
 
 // How many inputs lead to an entry of the queue.
-fn word_length(queue: &[u32; 4096], place: usize) -> usize
-    requires { (place < pairs) × Falls queue.now (place + 1) }
+fn word_length(queue: &[u32], place: usize) -> usize
+    requires { (length queue.now ≡ pairs) × (place < pairs) × Falls queue.now (place + 1) }
     ensures { (result ≡ length (word_to queue.now place)) × (result ≤ place) }
 {
     let mut at = place;
@@ -24,8 +24,8 @@ fn word_length(queue: &[u32; 4096], place: usize) -> usize
 }
 
 // Writes the inputs that lead to an entry at the front of the output. There are `len` of them.
-fn write_word(queue: &[u32; 4096], place: usize, len: usize, out: &mut [u8])
-    requires queue_len { (place < pairs) × Falls queue.now (place + 1) }
+fn write_word(queue: &[u32], place: usize, len: usize, out: &mut [u8])
+    requires queue_len { (length queue.now ≡ pairs) × (place < pairs) × Falls queue.now (place + 1) }
     requires len_value { (len ≡ length (word_to queue.now place)) × (len ≤ length out.old) }
     ensures { out.new ≡ overwritten (word_to queue.now place) out.old }
 {
@@ -39,8 +39,8 @@ fn write_word(queue: &[u32; 4096], place: usize, len: usize, out: &mut [u8])
 }
 
 // Writes the inputs that lead to an entry, and one more, if there is room for them.
-pub fn write_telling(queue: &[u32; 4096], place: usize, input: Input, out: &mut [u8]) -> Compared
-    requires { (place < pairs) × Falls queue.now (place + 1) }
+pub fn write_telling(queue: &[u32], place: usize, input: Input, out: &mut [u8]) -> Compared
+    requires { (length queue.now ≡ pairs) × (place < pairs) × Falls queue.now (place + 1) }
     ensures { Answers (some (word_to queue.now place ++ (input.0 ∷ []))) out.old result out.new }
 {
     let before = word_length(queue, place);

@@ -12,17 +12,19 @@ use Rattle.std.specs.Prelude.{Option, Some, None}
 use Rattle.comparer_pairs.specs.Pairs.{pair_of, golden_of, unit_of, golden_says, unit_says, next_pair, look_at}
 
 module _ (G U : Machine) (p i : ℕ) where
-  module _ (g u x : ℕ) (b : Bool) (golden : g ≡ golden_of p) (unit : u ≡ unit_of p) (input : x ≡ i) (says : b ≡ eqb (G.output g x) (U.output u x)) where
+  -- T and V are the machines as they were looked up
+  module _ (T V : Machine) (golden_is : T ≡ G) (unit_is : V ≡ U) (g u x : ℕ) (b : Bool) (golden : g ≡ golden_of p) (unit : u ≡ unit_of p) (input : x ≡ i)
+      (says : b ≡ eqb (T.output g x) (V.output u x)) where
     agreed : b ≡ eqb (golden_says G p i) (unit_says U p i)
-    agreed = says ∙ rw (golden, unit, input)
+    agreed = says ∙ rw (golden_is, unit_is, golden, unit, input)
 
     pub look_apart : not b ≡ true → None ≡ look_at G U p i
     unfolding look_at
     look_apart differ = rw (sym agreed ∙ not-true b differ)
 
-    pub look_next : not b ≡ false → (q r n : ℕ) → q ≡ G.next g x → r ≡ U.next u x → n ≡ pair_of q r → Some n ≡ look_at G U p i
+    pub look_next : not b ≡ false → (q r n : ℕ) → q ≡ T.next g x → r ≡ V.next u x → n ≡ pair_of q r → Some n ≡ look_at G U p i
     unfolding look_at next_pair
-    look_next same q r n next unext is = rw (sym agreed ∙ not-false b same, is, next, unext, golden, unit, input)
+    look_next same q r n next unext is = rw (sym agreed ∙ not-false b same, is, next, unext, golden_is, unit_is, golden, unit, input)
 
   -- what was seen says whether the outputs differ, and which pair is next
   module _ (r : Option ℕ) (e : r ≡ look_at G U p i) where

@@ -1,3 +1,4 @@
 pub mod Pairs
 pub mod Marks
 pub mod Queue
+pub mod Sides

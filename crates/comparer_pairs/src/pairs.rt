@@ -2,11 +2,11 @@
 ghost use Rattle.std.specs.Prelude.{◌≡◌, ◌<◌};
 ghost use Rattle.rules.specs.Sizes.{most_states};
 ghost use Rattle.comparer_pairs.specs.Pairs.{pairs, pair_of, golden_of, unit_of, look_at, Pair};
-ghost use Rattle.walker.specs.Machines.{machine_in};
+ghost use Rattle.comparer_pairs.specs.Sides.{golden_at, unit_at};
 
 use crate::Sides;
 use rules::{GoldenState, Input, MOST_STATES, UnitState};
-use walker::outputs_agree;
+use walker::{Table, outputs_agree};
 
 // How many states a machine may have.
 const STATES: usize = MOST_STATES as usize;
@@ -34,15 +34,17 @@ fn pair_of(golden: GoldenState, unit: UnitState) -> usize
 
 // The pair that an input leads to, where golden and unit give it the same output.
 pub fn look(sides: &Sides<'_>, pair: usize, input: Input) -> Option<usize>
-    requires { (pair < pairs) × Pair sides.now.golden.states sides.now.unit.states pair × (input.0 < sides.now.golden.inputs) }
-    ensures { result ≡ look_at (machine_in sides.now.golden) (machine_in sides.now.unit) pair input.0 }
+    requires { (pair < pairs) × Pair sides.now.states sides.now.units pair × (input.0 < sides.now.inputs) }
+    ensures { result ≡ look_at (golden_at sides.now) (unit_at sides.now) pair input.0 }
 {
+    let golden = Table::standing(sides.dossier, sides.table, sides.inputs, sides.states);
+    let unit = Table::standing(sides.unit, sides.utable, sides.inputs, sides.units);
     let g = golden_of(pair);
     let u = unit_of(pair);
-    if !outputs_agree(&sides.golden, g, &sides.unit, u, input) {
+    if !outputs_agree(&golden, g, &unit, u, input) {
         return None;
     }
-    let next = sides.golden.next(g, input);
-    let unext = sides.unit.next(u, input);
+    let next = golden.next(g, input);
+    let unext = unit.next(u, input);
     Some(pair_of(next, unext))
 }

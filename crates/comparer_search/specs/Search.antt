@@ -1,14 +1,12 @@
 -- What the search over pairs has done (document 01, "Compare"): pairs are met in the order of words, by length and then by
 -- inputs, so the first step that shows different outputs spells the first telling word.
-use Rattle.std.specs.Prelude.{ℕ, ◌+◌, ◌≤◌, ◌<◌, ◌≡◌, List, [], ◌∷◌, ◌++◌, Option, Some, None, Bool, true, false, length, set}
+use Rattle.std.specs.Prelude.{ℕ, ◌+◌, ◌≤◌, ◌<◌, ◌≡◌, List, [], ◌∷◌, ◌++◌, Option, Some, None, Result, Ok, Err, Bool, true, false, length, set}
 use Rattle.rules.specs.Sizes.{most_inputs, most_states}
 use Rattle.rules.specs.Words.{Word, Valid}
 use Rattle.rules.specs.Machines.{Machine, Complete, after, answer}
 use Rattle.theory.specs.Orders.{AtMost, ByLength}
 use Rattle.theory.specs.Compare.{Equal, FirstTelling}
 use Rattle.rules.specs.declared.Input.{Input}
-use Rattle.std.specs.declared.ops.ControlFlow.{ControlFlow}
-use Rattle.std.specs.declared.ops.ControlFlow.TheVariants.{Break, Continue}
 use Rattle.comparer_pairs.specs.Pairs.{pairs, golden_of, unit_of, golden_says, unit_says, next_pair}
 use Rattle.comparer_pairs.specs.Marks.{MarkTable, met, with_mark, unmet}
 use Rattle.comparer_pairs.specs.Queue.{step_of, entry_of, pair_at, step_at, word_to, Falls}
@@ -57,9 +55,9 @@ pub record Tells (k : ℕ) (G U : Machine) (queue : List ℕ) (j i : ℕ) : Type
   pub first : FirstTelling k G U (word_to queue j ++ (i ∷ []))
 
 -- what the steps at the entry j before the step `step` came to
-abbrev pub ProgressOf : ℕ → Machine → Machine → List ℕ → List ℕ → ℕ → ℕ → ControlFlow Input ℕ → Type 0
-ProgressOf k G U marks queue j step (Break i) = Tells k G U queue j i.0
-ProgressOf k G U marks queue j step (Continue tail) = Searched k G U marks queue step tail × (j < tail) × (tail ≤ pairs)
+abbrev pub ProgressOf : ℕ → Machine → Machine → List ℕ → List ℕ → ℕ → ℕ → Result ℕ Input → Type 0
+ProgressOf k G U marks queue j step (Err i) = Tells k G U queue j i.0
+ProgressOf k G U marks queue j step (Ok tail) = Searched k G U marks queue step tail × (j < tail) × (tail ≤ pairs)
 
 -- what the search came to
 abbrev pub FoundOf : ℕ → Machine → Machine → List ℕ → Option (ℕ × Input) → Type 0

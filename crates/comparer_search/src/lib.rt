@@ -5,25 +5,25 @@
 
 ghost use Rattle.std.specs.Prelude.{◌≡◌, false, ◌+◌, ◌≤◌, ◌<◌, length};
 ghost use Rattle.rules.specs.Sizes.{most_inputs};
-ghost use Rattle.walker.specs.Machines.{machine_in};
 ghost use Rattle.comparer_pairs.specs.Pairs.{pairs};
 ghost use Rattle.comparer_pairs.specs.Marks.{met};
 ghost use Rattle.comparer_pairs.specs.Queue.{step_of};
+ghost use Rattle.comparer_pairs.specs.Sides.{golden_at, unit_at};
 ghost use Rattle.comparer_search.specs.Search.{Searched, ProgressOf, FoundOf, PutOf};
 
 use comparer_pairs::{Sides, entry, is_met, look, meet, no_marks, pair_at};
 use rules::Input;
-use std::ops::ControlFlow;
 
 // Queues a pair, unless it was met before. The answer is how many entries the queue has then.
 fn put(
     marks: &mut [u8; 4096],
-    queue: &mut [u32; 4096],
+    queue: &mut [u32],
     tail: usize,
     pair: usize,
     head: usize,
     input: Input,
 ) -> usize
+    requires queue_len { length queue.old ≡ pairs }
     requires pair_lt_pairs { (pair < pairs) × (head < pairs) × (input.0 < most_inputs) }
     requires tail_lt_pairs { met marks.old pair ≡ false → tail < pairs }
     ensures { PutOf (met marks.old pair) marks.old queue.old tail pair (step_of head input.0) marks.new queue.new result }
@@ -41,18 +41,18 @@ fn put(
 fn try_input(
     sides: &Sides<'_>,
     marks: &mut [u8; 4096],
-    queue: &mut [u32; 4096],
+    queue: &mut [u32],
     head: usize,
     tail: usize,
     input: Input,
-) -> ControlFlow<Input, usize>
-    requires searched { Searched sides.now.golden.inputs (machine_in sides.now.golden) (machine_in sides.now.unit) marks.old queue.old (step_of head input.0) tail }
-    requires head_lt_tail { (head < tail) × (tail ≤ pairs) × (input.0 < sides.now.golden.inputs) }
-    ensures { ProgressOf sides.now.golden.inputs (machine_in sides.now.golden) (machine_in sides.now.unit) marks.new queue.new head (step_of head (input.0 + 1)) result }
+) -> Result<usize, Input>
+    requires searched { Searched sides.now.inputs (golden_at sides.now) (unit_at sides.now) marks.old queue.old (step_of head input.0) tail }
+    requires head_lt_tail { (head < tail) × (tail ≤ pairs) × (input.0 < sides.now.inputs) }
+    ensures { ProgressOf sides.now.inputs (golden_at sides.now) (unit_at sides.now) marks.new queue.new head (step_of head (input.0 + 1)) result }
 {
     match look(sides, pair_at(queue, head), input) {
-        None => ControlFlow::Break(input),
-        Some(pair) => ControlFlow::Continue(put(marks, queue, tail, pair, head, input)),
+        None => Err(input),
+        Some(pair) => Ok(put(marks, queue, tail, pair, head, input)),
     }
 }
 
@@ -60,25 +60,26 @@ fn try_input(
 fn try_entry(
     sides: &Sides<'_>,
     marks: &mut [u8; 4096],
-    queue: &mut [u32; 4096],
+    queue: &mut [u32],
     head: usize,
     tail: usize,
-) -> ControlFlow<Input, usize>
-    requires searched { Searched sides.now.golden.inputs (machine_in sides.now.golden) (machine_in sides.now.unit) marks.old queue.old (step_of head 0) tail }
+) -> Result<usize, Input>
+    requires searched { Searched sides.now.inputs (golden_at sides.now) (unit_at sides.now) marks.old queue.old (step_of head 0) tail }
     requires head_lt_tail { (head < tail) × (tail ≤ pairs) }
-    ensures { ProgressOf sides.now.golden.inputs (machine_in sides.now.golden) (machine_in sides.now.unit) marks.new queue.new head (step_of (head + 1) 0) result }
+    ensures { ProgressOf sides.now.inputs (golden_at sides.now) (unit_at sides.now) marks.new queue.new head (step_of (head + 1) 0) result }
 {
     let mut last = tail;
-    for i in 0..sides.golden.inputs {
+    for i in 0..sides.inputs {
         last = try_input(sides, marks, queue, head, last, Input::numbered(i))?;
     }
-    ControlFlow::Continue(last)
+    Ok(last)
 }
 
 // The first entry and input that tell golden and unit apart. The queue starts with the pair of the states 0, whose number is 0 and
 // which no step leads to.
-pub fn search(sides: &Sides<'_>, queue: &mut [u32; 4096]) -> Option<(usize, Input)>
-    ensures { FoundOf sides.now.golden.inputs (machine_in sides.now.golden) (machine_in sides.now.unit) queue.new result }
+pub fn search(sides: &Sides<'_>, queue: &mut [u32]) -> Option<(usize, Input)>
+    requires queue_len { length queue.old ≡ pairs }
+    ensures { FoundOf sides.now.inputs (golden_at sides.now) (unit_at sides.now) queue.new result }
 {
     let mut marks = no_marks();
     meet(&mut marks, 0);
@@ -88,10 +89,10 @@ pub fn search(sides: &Sides<'_>, queue: &mut [u32; 4096]) -> Option<(usize, Inpu
     // The queue grows while it is gone through.
     while head < tail {
         match try_entry(sides, &mut marks, queue, head, tail) {
-            ControlFlow::Break(input) => {
+            Err(input) => {
                 return Some((head, input));
             }
-            ControlFlow::Continue(end) => {
+            Ok(end) => {
                 tail = end;
             }
         }

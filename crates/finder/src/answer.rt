@@ -47,7 +47,7 @@ fn find_words(
     bound: u8,
     queue: &[u16],
     places: &[u8],
-    distances: &[u8; 4096],
+    distances: &[u8],
     out: &mut [u8],
 ) -> Found
     requires { Reduced golden.now.bytes.now golden.now.shape bound queue.now places.now distances.now }

@@ -3,7 +3,7 @@
 ghost use Rattle.std.specs.Prelude.{◌≡◌, ◌<◌, ℕ, Bool};
 ghost use Rattle.rules.specs.declared.Input.{Input};
 ghost use Rattle.rules.specs.Lists.{first, numbers};
-ghost use Rattle.finder_distances.specs.Marks.{mark_of};
+ghost use Rattle.finder_distances.specs.Marks.{mark_of, MarkTable};
 ghost use Rattle.finder_distances.specs.Leads.{machine_of_unit, nears, leads, lead_of, Tests};
 
 use crate::marks::distance_at;
@@ -14,11 +14,12 @@ use rules::{GoldenState, Input};
 // The distance of the two states that an input leads to from two states.
 fn next_distance(
     unit: &GoldenUnit<'_>,
-    distances: &[u8; 4096],
+    distances: &[u8],
     p: GoldenState,
     q: GoldenState,
     input: Input,
 ) -> u8
+    requires mark_table { MarkTable distances.now }
     requires p_lt_states { (p.0 < unit.now.shape.states) × (q.0 < unit.now.shape.states) × (input.0 < unit.now.shape.inputs) }
     ensures { result ≡ mark_of distances.now ((machine_of_unit unit.now.bytes.now unit.now.shape).next p.0 input.0) ((machine_of_unit unit.now.bytes.now unit.now.shape).next q.0 input.0) }
 {
@@ -29,12 +30,13 @@ fn next_distance(
 // Whether an input leads from two states to two of a given distance.
 fn comes_near(
     unit: &GoldenUnit<'_>,
-    distances: &[u8; 4096],
+    distances: &[u8],
     p: GoldenState,
     q: GoldenState,
     distance: u8,
     input: Input,
 ) -> bool
+    requires mark_table { MarkTable distances.now }
     requires p_lt_states { (p.0 < unit.now.shape.states) × (q.0 < unit.now.shape.states) × (input.0 < unit.now.shape.inputs) }
     ensures { result ≡ nears (machine_of_unit unit.now.bytes.now unit.now.shape) distances.now distance p.0 q.0 input.0 }
 {
@@ -58,11 +60,12 @@ fn lowest_input<F: Fn(Input) -> bool>(inputs: u8, test: F) -> Option<Input>
 // The lowest input behind which `left` inputs more tell two states apart: none more where their outputs differ.
 pub fn find_lead(
     unit: &GoldenUnit<'_>,
-    distances: &[u8; 4096],
+    distances: &[u8],
     p: GoldenState,
     q: GoldenState,
     left: u8,
 ) -> Option<Input>
+    requires mark_table { MarkTable distances.now }
     requires p_lt_states { (p.0 < unit.now.shape.states) × (q.0 < unit.now.shape.states) }
     ensures { result ≡ lead_of (first (leads (machine_of_unit unit.now.bytes.now unit.now.shape) distances.now left p.0 q.0) (numbers unit.now.shape.inputs)) }
 {

@@ -2,7 +2,7 @@
 // states of two states are looked up as they come.
 ghost use Rattle.std.specs.Prelude.{◌≡◌, ◌<◌};
 ghost use Rattle.rules.specs.Sizes.{most_states};
-ghost use Rattle.finder_distances.specs.Marks.{places, place_of, unmarked, mark_of, with_mark};
+ghost use Rattle.finder_distances.specs.Marks.{places, place_of, unmarked, mark_of, with_mark, MarkTable};
 
 use numbers::wide;
 use rules::{GoldenState, MOST_STATES};
@@ -23,7 +23,8 @@ fn place_of(p: GoldenState, q: GoldenState) -> usize
     wide(p.number()) * STATES + wide(q.number())
 }
 
-pub fn distance_at(distances: &[u8; 4096], p: GoldenState, q: GoldenState) -> u8
+pub fn distance_at(distances: &[u8], p: GoldenState, q: GoldenState) -> u8
+    requires mark_table { MarkTable distances.now }
     requires p_lt_most_states { (p.0 < most_states) × (q.0 < most_states) }
     ensures { result ≡ mark_of distances.now p.0 q.0 }
 {
@@ -32,7 +33,8 @@ pub fn distance_at(distances: &[u8; 4096], p: GoldenState, q: GoldenState) -> u8
 }
 
 // Sets the distance of two states, both ways round.
-pub fn set_distance(distances: &mut [u8; 4096], p: GoldenState, q: GoldenState, distance: u8)
+pub fn set_distance(distances: &mut [u8], p: GoldenState, q: GoldenState, distance: u8)
+    requires mark_table { MarkTable distances.old }
     requires p_lt_most_states { (p.0 < most_states) × (q.0 < most_states) }
     ensures { distances.new ≡ with_mark distances.old p.0 q.0 distance }
 {

@@ -13,7 +13,7 @@ use rules::GoldenState;
 // One pair in a round. The answer is whether the round has changed anything so far.
 fn mark_pair(
     unit: &GoldenUnit<'_>,
-    distances: &mut [u8; 4096],
+    distances: &mut [u8],
     p: GoldenState,
     q: GoldenState,
     rounds: u8,
@@ -38,7 +38,7 @@ fn mark_pair(
 // The pairs of a state and those above it.
 fn mark_row(
     unit: &GoldenUnit<'_>,
-    distances: &mut [u8; 4096],
+    distances: &mut [u8],
     p: GoldenState,
     rounds: u8,
     already: bool,
@@ -56,7 +56,7 @@ fn mark_row(
 }
 
 // A whole round.
-fn mark_round(unit: &GoldenUnit<'_>, distances: &mut [u8; 4096], rounds: u8) -> bool
+fn mark_round(unit: &GoldenUnit<'_>, distances: &mut [u8], rounds: u8) -> bool
     requires rounds_lt_states { rounds < unit.now.shape.states }
     requires midway { Midway unit.now.shape.inputs (machine_of_unit unit.now.bytes.now unit.now.shape) rounds 0 false distances.old }
     ensures { Midway unit.now.shape.inputs (machine_of_unit unit.now.bytes.now unit.now.shape) rounds (place_of unit.now.shape.states 0) result distances.new }
@@ -70,7 +70,7 @@ fn mark_round(unit: &GoldenUnit<'_>, distances: &mut [u8; 4096], rounds: u8) -> 
 }
 
 // Rounds until one changes nothing, at most one less than there are states.
-pub fn find_distances(unit: &GoldenUnit<'_>, distances: &mut [u8; 4096])
+pub fn find_distances(unit: &GoldenUnit<'_>, distances: &mut [u8])
     requires distances_value { distances.old ≡ unmarked }
     ensures { DistancesAt unit.now.bytes.now unit.now.shape distances.new }
 {

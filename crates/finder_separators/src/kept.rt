@@ -66,7 +66,7 @@ fn find_kept(text: &[u8], inputs: u8, count: usize, places: &mut [u16]) -> usize
 // Spells the words in the text, and finds the places of those that are kept. The answer is how many they are.
 pub fn find_separators(
     unit: &GoldenUnit<'_>,
-    distances: &[u8; 4096],
+    distances: &[u8],
     text: &mut [u8],
     places: &mut [u16],
 ) -> usize

@@ -26,7 +26,7 @@ pub fn text_room() -> [u8; 45696]
 // The word of two states. The answer is the place after it.
 fn spell_pair(
     unit: &GoldenUnit<'_>,
-    distances: &[u8; 4096],
+    distances: &[u8],
     p: GoldenState,
     q: GoldenState,
     text: &mut [u8],
@@ -44,7 +44,7 @@ fn spell_pair(
 // The words of a state and each that is above it.
 fn spell_row(
     unit: &GoldenUnit<'_>,
-    distances: &[u8; 4096],
+    distances: &[u8],
     p: GoldenState,
     text: &mut [u8],
     at: usize,
@@ -63,7 +63,7 @@ fn spell_row(
 }
 
 // The words of all pairs. The answer is how many they are.
-fn spell_pairs(unit: &GoldenUnit<'_>, distances: &[u8; 4096], text: &mut [u8]) -> usize
+fn spell_pairs(unit: &GoldenUnit<'_>, distances: &[u8], text: &mut [u8]) -> usize
     requires distances_at { DistancesAt unit.now.bytes.now unit.now.shape distances.now }
     requires states_in_bounds { length (spelt_of unit.now.bytes.now unit.now.shape distances.now (pairs unit.now.shape.states)) ≤ length text.old }
     ensures { SpellsAll unit.now.bytes.now unit.now.shape distances.now text.old text.new result }
@@ -78,7 +78,7 @@ fn spell_pairs(unit: &GoldenUnit<'_>, distances: &[u8; 4096], text: &mut [u8]) -
 }
 
 // The words of all pairs; for one state, which is in no pair, the empty word. The answer is how many they are.
-pub fn spell_words(unit: &GoldenUnit<'_>, distances: &[u8; 4096], text: &mut [u8]) -> usize
+pub fn spell_words(unit: &GoldenUnit<'_>, distances: &[u8], text: &mut [u8]) -> usize
     requires distances_at { DistancesAt unit.now.bytes.now unit.now.shape distances.now }
     requires all_told { AllTold unit.now.shape.states distances.now }
     requires text_len { length text.old ≡ text_room }

@@ -15,7 +15,7 @@ use rules::{GoldenState, Input};
 // The input that the first telling word of two states begins with, where `left` inputs follow it.
 fn telling_input(
     unit: &GoldenUnit<'_>,
-    distances: &[u8; 4096],
+    distances: &[u8],
     p: GoldenState,
     q: GoldenState,
     left: u8,
@@ -31,7 +31,7 @@ fn telling_input(
 // Writes the inputs of the first telling word of two states from the place `at` on. The answer is the place after them.
 pub fn write_telling(
     unit: &GoldenUnit<'_>,
-    distances: &[u8; 4096],
+    distances: &[u8],
     p: GoldenState,
     q: GoldenState,
     out: &mut [u8],

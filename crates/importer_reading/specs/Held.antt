@@ -1,5 +1,5 @@
 -- What the program holds of the lines that were read, in the words of the rules.
-use Rattle.std.specs.Prelude.{ℕ, ◌<◌, ◌≡◌, List, [], ◌∷◌, ◌++◌, true, false, length, unwrap_or, Result, Ok, Err}
+use Rattle.std.specs.Prelude.{ℕ, ◌<◌, ◌≡◌, List, [], ◌∷◌, ◌++◌, true, false, length, unwrap_or, Result, Ok, Err, ⊤}
 use Rattle.rules.specs.Kiss2.{Says, terms_in, names_in, may_follow, contradicts}
 use Rattle.importer_counts.specs.Counts.{CountsAt}
 use Rattle.importer_names.specs.Names.{NamesAt}
@@ -28,6 +28,11 @@ StepOf before s names lengths nexts outputs ranks (Ok y) =
 
 pub record Stepped (before : List Says) (s : Says) (names lengths nexts outputs ranks : List ℕ) (r : Result Progress LineFault) : Type 0 where
   pub told : StepOf before s names lengths nexts outputs ranks r
+
+-- a step of a progress that was changed in place
+abbrev pub stepped : Result ⊤ LineFault → Progress → Result Progress LineFault
+stepped (Ok done) x = Ok x
+stepped (Err f) x = Err f
 
 -- some lines were read, and these are what was counted of them and their names; a text has no more terms than bytes
 pub record SomeSaid (x : Progress) (names lengths : List ℕ) : Type 0 where

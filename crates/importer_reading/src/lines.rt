@@ -6,7 +6,7 @@ ghost use Rattle.importer_lines.specs.Parts.{part_at};
 ghost use Rattle.importer_counts.specs.Counts.{CountsAt};
 ghost use Rattle.importer_terms.specs.Entries.{unsaid};
 ghost use Rattle.importer_ranks.specs.Ranks.{unranked};
-ghost use Rattle.importer_reading.specs.Held.{Held, SomeHeld, Stepped};
+ghost use Rattle.importer_reading.specs.Held.{Held, SomeHeld, Stepped, stepped};
 ghost use Rattle.importer_reading.specs.Lines.{refusal_of, ReadAs};
 
 use crate::directives::{follow_end, follow_number, follow_reset};
@@ -17,7 +17,15 @@ use importer_lines::line_end;
 use importer_says::{LineSaid, line_said};
 use rules::Refusal;
 
-// One line more, in text[from..end].
+// What has been said, with one line more; a line that is at fault leaves it as it was.
+fn take(x: &mut Progress, said: Result<Progress, LineFault>) -> Result<(), LineFault>
+    ensures { stepped result x.new ≡ said }
+{
+    *x = said?;
+    Ok(())
+}
+
+// One line more, in text[from..end]. What has been said is changed in place, so that a line that says nothing copies nothing.
 fn follow_line(
     text: &[u8],
     from: usize,
@@ -27,16 +35,16 @@ fn follow_line(
     nexts: &mut [u8],
     outputs: &mut [u8],
     ranks: &mut [u8],
-    x: Progress,
-) -> Result<Progress, LineFault>
+    x: &mut Progress,
+) -> Result<(), LineFault>
     requires from_le_end { (from ≤ end) × (end ≤ length text.now) }
-    requires some_held { SomeHeld x names.old lengths.old nexts.old outputs.old ranks.old }
-    ensures { (before : List Says) → Held before x names.old lengths.old nexts.old outputs.old ranks.old → Stepped before (line_says (part_at text.now from end)) names.new lengths.new nexts.new outputs.new ranks.new result }
+    requires some_held { SomeHeld x.old names.old lengths.old nexts.old outputs.old ranks.old }
+    ensures { (before : List Says) → Held before x.old names.old lengths.old nexts.old outputs.old ranks.old → Stepped before (line_says (part_at text.now from end)) names.new lengths.new nexts.new outputs.new ranks.new (stepped result x.new) }
 {
     match line_said(text, from, end) {
-        LineSaid::Skipped => Ok(x),
-        LineSaid::Number(directive, n) => follow_number(x, directive, n),
-        LineSaid::Reset(part) => follow_reset(text, part, names, lengths, ranks, x),
+        LineSaid::Skipped => Ok(()),
+        LineSaid::Number(directive, n) => take(x, follow_number(*x, directive, n)),
+        LineSaid::Reset(part) => take(x, follow_reset(text, part, names, lengths, ranks, *x)),
         LineSaid::Term(cube, current, next, output) => {
             let term = TermParts {
                 cube,
@@ -44,9 +52,12 @@ fn follow_line(
                 next,
                 output,
             };
-            follow_term(text, term, names, lengths, nexts, outputs, ranks, x)
+            take(
+                x,
+                follow_term(text, term, names, lengths, nexts, outputs, ranks, *x),
+            )
         }
-        LineSaid::End => follow_end(x),
+        LineSaid::End => take(x, follow_end(*x)),
         LineSaid::Bad => Err(LineFault::Bad),
     }
 }
@@ -92,9 +103,10 @@ pub fn read_lines(
     // Each line begins behind the end of the one before it.
     while from < text.len() {
         let end = line_end(text, from);
-        match follow_line(text, from, end, names, lengths, nexts, outputs, ranks, x) {
-            Ok(y) => x = y,
-            Err(fault) => return Err(refusal_of(fault, line)),
+        if let Err(fault) = follow_line(
+            text, from, end, names, lengths, nexts, outputs, ranks, &mut x,
+        ) {
+            return Err(refusal_of(fault, line));
         }
         line += 1;
         from = end + 1;

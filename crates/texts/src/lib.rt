@@ -11,10 +11,13 @@ pub fn same_text(given: &[u8], name: &[u8]) -> bool
     given == name
 }
 
-// The first n bytes of a text to out at the place at.
+// The first n bytes of a text to out at the place at, byte by byte: the library's `copy_from_slice` would have the archive call `memmove`,
+// which a caller in C may not have.
 pub fn copy(text: &[u8], n: usize, out: &mut [u8], at: usize)
     requires { (n ≤ length text.now) × (at + n ≤ length out.old) }
     ensures { out.new ≡ paste out.old at text.now n }
 {
-    out[at..at + n].copy_from_slice(&text[..n]);
+    for i in 0..n {
+        out[at + i] = text[i];
+    }
 }

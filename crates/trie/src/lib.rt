@@ -75,7 +75,10 @@ pub fn walk(nodes: Nodes, p: usize, w: &[u8]) -> Option<usize>
 {
     let mut node = p;
     for a in w {
-        node = child(nodes, node, Input::numbered(*a))?;
+        let Some(under) = child(nodes, node, Input::numbered(*a)) else {
+            return None;
+        };
+        node = under;
     }
     Some(node)
 }
@@ -93,7 +96,8 @@ pub fn step(
     requires p_lt_count { p < count }
     ensures { (t : Trie) → Holds t label.old first.old next.old → count ≡ size t → StepOf t p a.0 label.new first.new next.new result }
 {
-    if let Some(j) = child(Nodes { label, first, next }, p, a) {
+    let met = child(Nodes { label, first, next }, p, a);
+    if let Some(j) = met {
         return Some((j, count));
     }
     if label.len() <= count {

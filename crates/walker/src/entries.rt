@@ -6,7 +6,6 @@ ghost use Rattle.walker.specs.Machines.{machine_in};
 use crate::table::{State, Table};
 use numbers::wide;
 use rules::{Input, Output};
-use std::marker::PhantomData;
 
 // The bytes of an output and of a table entry.
 pub const OUTPUT_WIDTH: usize = 1;
@@ -37,7 +36,7 @@ impl<'a, S: State> Table<'a, S> {
             place,
             inputs,
             states,
-            sort: PhantomData,
+            sort: S::numbered(0),
         }
     }
 

@@ -3,7 +3,6 @@ ghost use Rattle.std.specs.Prelude.{◌≡◌, ℕ};
 ghost use Rattle.reader.specs.Places.{TableAt};
 
 use rules::{GoldenState, UnitState};
-use std::marker::PhantomData;
 
 // A sort of states: the golden's or the unit's.
 pub trait State: Copy {
@@ -40,13 +39,14 @@ impl State for UnitState {
     }
 }
 
-// The table of a machine whose states are of the sort S, from its first entry on.
+// The table of a machine whose states are of the sort S, from its first entry on. `sort` is some state of that sort: it gives the
+// table its sort, and nothing is read of it.
 #[derive(Drop)]
 pub struct Table<'a, S> {
     pub bytes: &'a [u8],
     pub place: usize,
     pub inputs: u8,
     pub states: u8,
-    pub sort: PhantomData<S>,
+    pub sort: S,
     ghost stands: { TableAt bytes.now place inputs states },
 }

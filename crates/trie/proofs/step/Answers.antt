@@ -3,7 +3,7 @@ use Rattle.trie.proofs.Steps.{step_kept, step_made, step_full}
 use Rattle.trie.proofs.step.Goals as goal
 
 pub returns-in-Some : goal.returns-in-Some
-returns-in-Some c = λ t h k. step_kept t _ _ _ _ _ _ k _ _ (c.child.ensures t h (omega (arith, c.requires.p_lt_count))) c.in-Some.is h
+returns-in-Some c = λ t h k. step_kept t _ _ _ _ _ _ k _ _ (c.child-met.ensures t h (omega (arith, c.requires.p_lt_count))) c.in-Some.is h
 
 pub returns-then-label-count : goal.returns-then-label-count
 returns-then-label-count c = λ t h k.

@@ -31,16 +31,16 @@ pub returns-in-Skipped : goal.returns-in-Skipped
 returns-in-Skipped c = λ before held. said_so (said_skipped c.line_said.ensures c.in-Skipped.is) (skipped_goes before _ _ _ _ _ _ held)
 
 pub returns-in-Number : goal.returns-in-Number
-returns-in-Number c = λ before held. said_so (said_number c.line_said.ensures c.in-Number.is).said (c.follow_number.ensures before _ _ _ _ _ held)
+returns-in-Number c = λ before held. said_so (said_number c.line_said.ensures c.in-Number.is).said (rw c.take.ensures (c.follow_number.ensures before _ _ _ _ _ held))
 
 pub returns-in-Reset : goal.returns-in-Reset
-returns-in-Reset c = λ before held. said_so (said_reset c.line_said.ensures c.in-Reset.is).said (c.follow_reset.ensures before _ _ held)
+returns-in-Reset c = λ before held. said_so (said_reset c.line_said.ensures c.in-Reset.is).said (rw c.take-in-Reset.ensures (c.follow_reset.ensures before _ _ held))
 
 pub returns-in-Term : goal.returns-in-Term
-returns-in-Term c = λ before held. said_so (said_term c.line_said.ensures c.in-Term.is).said (c.follow_term.ensures before held)
+returns-in-Term c = λ before held. said_so (said_term c.line_said.ensures c.in-Term.is).said (rw c.take-in-Term.ensures (c.follow_term.ensures before held))
 
 pub returns-in-End : goal.returns-in-End
-returns-in-End c = λ before held. said_so (said_end c.line_said.ensures c.in-End.is) (c.follow_end.ensures before _ _ _ _ _ held)
+returns-in-End c = λ before held. said_so (said_end c.line_said.ensures c.in-End.is) (rw c.take-in-End.ensures (c.follow_end.ensures before _ _ _ _ _ held))
 
 pub returns-in-Bad : goal.returns-in-Bad
 returns-in-Bad c = λ before held. said_so (said_bad c.line_said.ensures c.in-Bad.is) (bad_step before _ _ _ _ _)
