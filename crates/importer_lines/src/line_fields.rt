@@ -36,6 +36,10 @@ pub fn next_field(text: &[u8], from: usize, end: usize) -> Part
     ensures next_field { NextField text.now from end result }
     ensures end_le_end { result.end ≤ end }
 {
+    // Most lines have fewer fields than are looked for: behind the last there is nothing to look at.
+    if from == end {
+        return Part { start: end, end };
+    }
     let start = field_start(text, from, end);
     let stop = field_end(text, start, end);
     Part { start, end: stop }
